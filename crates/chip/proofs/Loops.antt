@@ -1,0 +1,27 @@
+-- The loops of `clear`, `burn` and `blur`: one store a turn, from the front. Assumes nothing.
+use mathlib.Core.Path.{_≡_, sym, ap, _∙_}
+use mathlib.Core.List.{List}
+use Prim.Native.Nat.{ℕ, _+_, _≤_, _<_}
+use native.Mathlib.Omega.{arith}
+use lib.ListN.{length, set, replicate, length-replicate, getD-replicate}
+use Rattle.page.specs.Page.{byte, each}
+use Rattle.page.proofs.Cut.{length-each, byte-each}
+use Rattle.page.proofs.Grow.{grown, grown-more, grown-all, grown-ahead}
+
+module _ (d l : List ℕ) (i : ℕ) where
+  pub clear-turn : i < length d → l ≡ grown i (replicate (length d) 255) d → set l i 255 ≡ grown (i + 1) (replicate (length d) 255) d
+  clear-turn h e =
+      grown-more i _ d l 255 e (sym (getD-replicate (length d) i 255 0 h)) (omega (arith, length-replicate {A = ℕ} (length d) 255)) h
+
+  pub clear-end : i ≡ length d → l ≡ grown i (replicate (length d) 255) d → l ≡ replicate (length d) 255
+  clear-end q e = grown-all i _ d l e (length-replicate (length d) 255 ∙ sym q) (sym q)
+
+module _ (f : ℕ → ℕ → ℕ) (d s l : List ℕ) (i : ℕ) (long : length d ≤ length s) where
+  pub each-turn : i < length d → l ≡ grown i (each f d s) d → set l i (f (byte l i) (byte s i)) ≡ grown (i + 1) (each f d s) d
+  each-turn h e =
+      let n : length (each f d s) ≡ length d = length-each f d s in
+      grown-more i _ d l _ e
+      (ap (λ (x : ℕ). f x (byte s i)) (grown-ahead i _ d l e (omega arith)) ∙ sym (byte-each f d s i h (omega arith))) (omega arith) h
+
+  pub each-end : i ≡ length d → l ≡ grown i (each f d s) d → l ≡ each f d s
+  each-end q e = grown-all i _ d l e (length-each f d s ∙ sym q) (sym q)

@@ -1,0 +1,97 @@
+// The chip (document 01, section 1) and its fault script (document 03, section 1): erase a block, write a page, whole or cut short.
+// This is the only crate that changes the chip's bytes. What an operation leaves is said in specs/Chip.antt, what a run of them did in specs/Play.antt.
+// `fuse` is the number of the fault script: 0, the power is gone; 1, it goes during the next operation; more, it stays on for that one.
+ghost use mathlib.Core.Path.{_≡_};
+ghost use mathlib.Core.Bool.{true};
+ghost use Prim.Native.Nat.{_+_, _-_, _*_, _≤_};
+ghost use lib.ListN.{length, replicate};
+ghost use Rattle.page.specs.Page.{ors, ands};
+ghost use Rattle.chip.specs.Chip.{blankAt, power, erased, written};
+
+// Whether page p is blank, so that it may be written.
+pub fn blank_at(chip: &[u8], p: usize) -> bool
+    requires { ⌜ 256 * p + 256 ≤ length (now chip) ⌝ }
+    ensures { λ r. ⌜ r ≡ blankAt (now (chip .entry)) p ⌝ }
+{
+    let from = 256 * p;
+    page::is_blank(&chip[from..from + 256])
+}
+
+// All bits become 1.
+fn clear(dst: &mut [u8])
+    ensures { λ _. ⌜ now (dst .exit) ≡ replicate (length (now (dst .entry))) 255 ⌝ }
+{
+    let n = dst.len();
+    let mut i = 0;
+    while i < n {
+        dst[i] = 255;
+        i += 1;
+    }
+}
+
+// Bits that are 0 in src become 0.
+fn burn(dst: &mut [u8], src: &[u8])
+    requires { ⌜ length (now dst) ≤ length (now src) ⌝ }
+    ensures { λ _. ⌜ now (dst .exit) ≡ ands (now (dst .entry)) (now (src .entry)) ⌝ }
+{
+    let n = dst.len();
+    let mut i = 0;
+    while i < n {
+        dst[i] = dst[i] & src[i];
+        i += 1;
+    }
+}
+
+// Bits that are 1 in the noise become 1.
+fn blur(dst: &mut [u8], noise: &[u8])
+    requires { ⌜ length (now dst) ≤ length (now noise) ⌝ }
+    ensures { λ _. ⌜ now (dst .exit) ≡ ors (now (dst .entry)) (now (noise .entry)) ⌝ }
+{
+    let n = dst.len();
+    let mut i = 0;
+    while i < n {
+        dst[i] = dst[i] | noise[i];
+        i += 1;
+    }
+}
+
+// Erases block b.
+pub fn erase(chip: &mut [u8], b: usize, fuse: &mut u64, noise: &[u8])
+    requires { ⌜ (4096 * b + 4096 ≤ length (now chip)) × (length (now noise) ≡ 4096) ⌝ }
+    ensures { λ _. ⌜ now (chip .exit) ≡ erased (power (now (fuse .entry))) (now (noise .entry)) b (now (chip .entry)) ⌝ }
+    ensures { λ _. ⌜ now (fuse .exit) ≡ now (fuse .entry) - 1 ⌝ }
+{
+    let f = *fuse;
+    if f == 0 {
+        return;
+    }
+    let a = 4096 * b;
+    let block = &mut chip[a..a + 4096];
+    *fuse = f - 1;
+    if f == 1 {
+        blur(block, noise);
+        return;
+    }
+    clear(block);
+}
+
+// Writes page p, which is blank: by the maker's rules no other page may be written.
+pub fn write(chip: &mut [u8], p: usize, new: &[u8], fuse: &mut u64, noise: &[u8])
+    requires { ⌜ (256 * p + 256 ≤ length (now chip)) × (length (now new) ≡ 256) × (length (now noise) ≡ 4096) ⌝ }
+    requires { ⌜ blankAt (now chip) p ≡ true ⌝ }
+    ensures { λ _. ⌜ now (chip .exit) ≡ written (power (now (fuse .entry))) (now (noise .entry)) p (now (new .entry)) (now (chip .entry)) ⌝ }
+    ensures { λ _. ⌜ now (fuse .exit) ≡ now (fuse .entry) - 1 ⌝ }
+{
+    let f = *fuse;
+    if f == 0 {
+        return;
+    }
+    let a = 256 * p;
+    let page = &mut chip[a..a + 256];
+    *fuse = f - 1;
+    burn(page, new);
+    if f == 1 {
+        blur(page, noise);
+        return;
+    }
+}

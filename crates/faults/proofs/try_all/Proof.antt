@@ -1,0 +1,31 @@
+-- `faults::try_all` is safe and ends. Assumes nothing.
+use mathlib.Core.Path.{_≡_}
+use Prim.Native.Nat.{_≤_, _-_}
+use lib.ListN.{length}
+use borrow.Author.Needs.{needs}
+use Rattle.faults.proofs.try_all.Statement.{statement}
+use Rattle.faults.proofs.try_all.Tie as tie
+
+abbrev Inv-loop : tie.InvT-loop
+Inv-loop chip₀ before noise₀ which₀ chip noise which = (which ≤ 3) × (length chip ≡ 8192) × (length before ≡ 8192) × (length noise ≡ 4096)
+
+abbrev μ-loop : tie.MeasureT-loop
+μ-loop chip₀ before noise₀ which₀ chip noise which = 3 - which
+
+pub try-all-spec : {M : Type 1} → statement M
+try-all-spec =
+    tie.close
+    (tie.spec
+    Inv-loop
+    μ-loop
+    (λ c κs. search needs)
+    (λ c. search needs)
+    (λ c κs. search needs)
+    (λ c κs. search needs)
+    (λ c. search needs)
+    (λ c. search needs)
+    (λ c. search needs)
+    (λ c. search needs)
+    (λ c. search needs)
+    (λ c. search needs)
+    (λ c. search needs))

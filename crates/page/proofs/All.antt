@@ -1,0 +1,43 @@
+-- Laws of `all`: how a loop that tests every index makes it, and what it says of each index. Assumes nothing.
+use mathlib.Core.Path.{_≡_, refl, sym, ap, _∙_}
+use mathlib.Core.Bool.{Bool, true, false, _&&_, true≢false}
+use mathlib.Core.Logic.{⊎-elim}
+use Prim.Native.Nat.{ℕ, zero, suc, _+_, _<_}
+use native.Mathlib.Nat.{not-suc-le-zero, le-of-suc-le-suc, eq-or-lt-of-le}
+use native.Mathlib.Numerals.{add-one}
+use native.Mathlib.Omega.{arith}
+use Rattle.page.specs.Page.{all}
+
+pub and-true : (a b : Bool) → a ≡ true → b ≡ true → (a && b) ≡ true
+and-true true b p q = q
+and-true false b p q = p
+
+pub and-left : (a b : Bool) → (a && b) ≡ true → a ≡ true
+and-left true b p = refl
+and-left false b p = p
+
+pub and-right : (a b : Bool) → (a && b) ≡ true → b ≡ true
+and-right true b p = p
+and-right false b p = absurd (true≢false (sym p))
+
+module _ (p : ℕ → Bool) where
+  -- a turn of a loop, and its end
+  pub all-more : (i : ℕ) (ok t : Bool) → ok ≡ all p i → t ≡ p i → (ok && t) ≡ all p (i + 1)
+  unfolding all
+  all-more i ok t e q = rw (e, q, add-one)
+
+  pub all-done : (i n : ℕ) (ok : Bool) → ok ≡ all p i → i ≡ n → ok ≡ all p n
+  all-done i n ok e q = e ∙ ap (all p) q
+
+  -- what it says of each index
+  pub all-at : (n i : ℕ) → i < n → all p n ≡ true → p i ≡ true
+  unfolding all
+  all-at zero i l h = absurd (not-suc-le-zero l)
+  all-at (suc n) i l h =
+      ⊎-elim (λ e. ap p e ∙ and-right (all p n) (p n) h) (λ l′. all-at n i l′ (and-left (all p n) (p n) h))
+      (eq-or-lt-of-le (le-of-suc-le-suc l))
+
+  pub all-of : (n : ℕ) → ((i : ℕ) → i < n → p i ≡ true) → all p n ≡ true
+  unfolding all
+  all-of zero h = refl
+  all-of (suc n) h = and-true (all p n) (p n) (all-of n (λ i l. h i (omega arith))) (h n (omega arith))

@@ -1,0 +1,5 @@
+pub mod All
+pub mod Grow
+pub mod Forms
+pub mod Filling
+pub mod Cut

@@ -1,0 +1,51 @@
+-- The bytes of a page (document 01, section 2), and what noise and writing do to bytes (section 1; document 03, section 1).
+-- A page is a list of 256 bytes. Nothing here mentions code. Assumes nothing.
+use mathlib.Core.Bool.{Bool, true, _&&_}
+use mathlib.Core.List.{List, [], _∷_, _++_, map}
+use Prim.Native.Nat.{ℕ, zero, suc, _+_, _-_, _<_}
+use lib.ListN.{getD}
+use lib.Bits.{bitOr, bitAnd}
+use lib.Dec.{eqb}
+
+-- byte i of a list of bytes
+abbrev pub byte : List ℕ → ℕ → ℕ
+byte l i = getD l i 0
+
+-- every number of a list is a byte
+abbrev pub Bytes : List ℕ → Type 0
+Bytes l = (i : ℕ) → byte l i < 256
+
+-- the test p holds of every number below n
+unfoldable pub all : (ℕ → Bool) → ℕ → Bool
+all p zero = true
+all p (suc n) = all p n && p n
+
+-- a page is blank when its 256 bytes all read 0xFF
+unfoldable pub blank : List ℕ → Bool
+blank pg = all (λ i. eqb (byte pg i) 255) 256
+
+-- y is 255 minus x. (As a sum, so that no number above 255 passes for a byte.)
+abbrev pub flips : ℕ → ℕ → Bool
+flips x y = eqb (x + y) 255
+
+-- a page is sound when byte 128 + i is 255 minus byte i, for all i from 0 to 127
+unfoldable pub sound : List ℕ → Bool
+sound pg = all (λ i. flips (byte pg i) (byte pg (128 + i))) 128
+
+-- the page of a payload: the payload, and then each of its bytes flipped
+unfoldable pub form : List ℕ → List ℕ
+form payload = payload ++ map (λ x. 255 - x) payload
+
+-- f of the bytes at each index; past the end of the second list the first is as it was
+unfoldable pub each : (ℕ → ℕ → ℕ) → List ℕ → List ℕ → List ℕ
+each f [] ys = []
+each f (x ∷ xs) [] = x ∷ each f xs []
+each f (x ∷ xs) (y ∷ ys) = f x y ∷ each f xs ys
+
+-- bitwise and
+abbrev pub ands : List ℕ → List ℕ → List ℕ
+ands = each bitAnd
+
+-- bitwise or: every bit that is 1 in the first stays 1, and every other is the noise's
+abbrev pub ors : List ℕ → List ℕ → List ℕ
+ors = each bitOr

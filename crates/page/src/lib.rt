@@ -1,0 +1,60 @@
+// The bytes of a page (document 01, section 2): is it blank, is it sound, and the page of a payload.
+// The definitions are in specs/Page.antt. Both tests pass over all bytes and never leave early, so that the compiler vectorises them.
+ghost use mathlib.Core.Path.{_≡_};
+ghost use Prim.Native.Nat.{_+_, _-_};
+ghost use lib.ListN.{length, take};
+ghost use Rattle.page.specs.Page.{blank, sound, flips, form};
+
+// Whether y is 255 minus x.
+fn flips(x: u8, y: u8) -> bool
+    ensures { λ r. ⌜ r ≡ flips x y ⌝ }
+{
+    y == 255 - x
+}
+
+// Whether all 256 bytes read 0xFF.
+pub fn is_blank(page: &[u8]) -> bool
+    requires { ⌜ length (now page) ≡ 256 ⌝ }
+    ensures { λ r. ⌜ r ≡ blank (now (page .entry)) ⌝ }
+{
+    let mut ok = true;
+    let mut i = 0;
+    while i < 256 {
+        ok = ok & (page[i] == 255);
+        i += 1;
+    }
+    ok
+}
+
+// Whether the second half of the page is the flipped copy of the first.
+pub fn is_sound(page: &[u8]) -> bool
+    requires { ⌜ length (now page) ≡ 256 ⌝ }
+    ensures { λ r. ⌜ r ≡ sound (now (page .entry)) ⌝ }
+{
+    let mut ok = true;
+    let mut i = 0;
+    while i < 128 {
+        ok = ok & flips(page[i], page[128 + i]);
+        i += 1;
+    }
+    ok
+}
+
+// A byte with all its bits flipped.
+fn flip(x: u8) -> u8
+    ensures { λ r. ⌜ r ≡ 255 - x ⌝ }
+{
+    255 - x
+}
+
+// Makes the buffer the page of the payload that stands in its first half.
+pub fn fill(page: &mut [u8])
+    requires { ⌜ length (now page) ≡ 256 ⌝ }
+    ensures { λ _. ⌜ now (page .exit) ≡ form (take 128 (now (page .entry))) ⌝ }
+{
+    let mut j = 0;
+    while j < 128 {
+        page[128 + j] = flip(page[j]);
+        j += 1;
+    }
+}
