@@ -26,8 +26,12 @@ pub record Said (pg : List ℕ) (r : Rec) : Type 0 where
   pub short-value : byte pg 3 ≤ 96
   pub value : (v : List ℕ) → r .what ≡ some v → take (byte pg 3) (drop 32 pg) ≡ v
 
-none≢some : {A : Type 0} {a : A} → none ≡ some a → ⊥
-none≢some e = let z : _≡_ {A = ℕ} 0 1 = cc in omega arith
+-- a value is no none, and two values are equal where they are so as options
+pub some≢none : {A : Type 0} {a : A} → some a ≡ none → ⊥
+some≢none e = let z : _≡_ {A = ℕ} 0 1 = cc in omega arith
+
+pub some-inj : {A : Type 0} {a b : A} → some a ≡ some b → a ≡ b
+some-inj e = cc
 
 -- the last three of five tests
 last-three : (a b c d e : Bool) → (a && b && c && d && e) ≡ true → (c ≡ true) × (d ≡ true) × (e ≡ true)
@@ -38,9 +42,6 @@ last-three a b c d e h =
 
 le-of-eq-zero : {n m : ℕ} → n ≡ 0 → n ≤ m
 le-of-eq-zero e = omega arith
-
-some-inj : {A : Type 0} {a b : A} → some a ≡ some b → a ≡ b
-some-inj e = cc
 
 -- the record that a page holds, by the tests: it is sound, a value, a note
 abbrev held : List ℕ → Bool → Bool → Bool → Option Rec
@@ -53,8 +54,8 @@ held pg s v n =
 module _ (pg : List ℕ) (r : Rec) where
   by-tests : (s : Bool) → sound pg ≡ s → (v : Bool) → isValue (byte pg 0) (byte pg 1) (byte pg 2) (byte pg 3) ≡ v → (n : Bool)
       → isNote (byte pg 0) (byte pg 1) (byte pg 2) (byte pg 3) ≡ n → held pg s v n ≡ some r → Said pg r
-  by-tests false es v ev n en e = absurd (none≢some e)
-  by-tests true es false ev false en e = absurd (none≢some e)
+  by-tests false es v ev n en e = absurd (some≢none (sym e))
+  by-tests true es false ev false en e = absurd (some≢none (sym e))
   by-tests true es true ev n en e =
       let t = last-three (eqb (byte pg 0) 1) (eqb (byte pg 1) 1) _ _ _ ev in
       record {
@@ -73,7 +74,7 @@ module _ (pg : List ℕ) (r : Rec) where
         short-key = leb-true _ _ (t .1);
         key = ap (λ (x : Rec). x .key) (some-inj e);
         short-value = le-of-eq-zero (eqb-true (byte pg 3) 0 (t .2));
-        value = λ v q. absurd (none≢some (ap (λ (x : Rec). x .what) (some-inj e) ∙ q));
+        value = λ v q. absurd (some≢none (sym (ap (λ (x : Rec). x .what) (some-inj e) ∙ q)));
       }
 
   pub said : recOf pg ≡ some r → Said pg r

@@ -1,0 +1,25 @@
+pub mod KeyLaws
+pub mod KeyPlaces
+pub mod MapLaws
+pub mod MapMore
+pub mod Place
+pub mod ReplayLaws
+pub mod Window
+pub mod LogLaws
+pub mod Clean
+pub mod Index
+pub mod RingLaws
+pub mod Steps
+pub mod WearLaws
+pub mod Turn
+pub mod Potential
+pub mod Opening
+pub mod Start
+pub mod Append
+pub mod Bytes
+pub mod Crash
+pub mod CallLaws
+pub mod CallCost
+pub mod AnswerLaws
+pub mod IndexSteps
+mod Examples
