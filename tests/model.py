@@ -1,5 +1,5 @@
 #!/usr/bin/env python3
-"""model.py faults | pages: what that program must write, computed from documents 01 and 03 and docs/FORMAT.md alone.
+"""model.py faults | pages | wild: what that program must write, computed from documents 01 and 03 and docs/FORMAT.md alone.
 
 An independent model of the page form, the payload's layout and the fault script.
 """
@@ -77,4 +77,284 @@ def pages():
             print(page[i : i + 32].hex(" "))
 
 
-{"faults": faults, "pages": pages}[sys.argv[1]]()
+# ---- wild: random chips and random work areas, with four blocks
+
+BLANK = b"\xff" * 256
+
+
+class Random:
+    x = 1
+
+    def roll(self, n):
+        self.x = (self.x * 1103515245 + 12345) % 2**31
+        return self.x // 65536 % n
+
+    def key(self):
+        return bytes([97 + self.roll(24)])
+
+    def byte(self):
+        return bytes([self.roll(256)])
+
+
+def random_record(rng):
+    note, key, value = rng.roll(4) == 0, rng.key(), rng.byte()
+    return record_page(2, key, b"") if note else record_page(1, key, value)
+
+
+def odd_page(rng):
+    heading = [1 + rng.roll(4) // 3, 1 + rng.roll(3), rng.roll(18), max(rng.roll(196) - 98, 0)]
+    key, value = rng.key(), rng.byte()
+    return page_of(bytes(heading).ljust(16, b"\0") + key.ljust(16, b"\0") + value.ljust(96, b"\0"))
+
+
+def spoilt_page(rng):
+    page, i = random_record(rng), rng.roll(256)
+    return page[:i] + rng.byte() + page[i + 1 :]
+
+
+def random_page(rng):
+    return b"".join(rng.byte() for _ in range(256))
+
+
+def seal_page(_):
+    return record_page(3, b"", b"")
+
+
+def blank_page(_):
+    return BLANK
+
+
+def any_seal(rng):
+    return [random_page, seal_page, blank_page, blank_page][rng.roll(4)]
+
+
+def choose(kind, h, m, stray, p, rng):
+    block, place = divmod(p, 16)
+    if kind == 0:
+        return random_page
+    if kind == 3:
+        return random_record if p == stray else blank_page if p >= m else seal_page if place == 15 else random_record
+    if place < 15:
+        return ([random_record] * 9 + [blank_page] * 4 + [random_page, odd_page, spoilt_page])[rng.roll(16)]
+    if kind == 1 or block == (h + 1) % 4:
+        return any_seal(rng)
+    return blank_page if block == h else [random_page, seal_page, seal_page, seal_page][rng.roll(4)]
+
+
+def make_chip(kind, rng):
+    h, m, stray = rng.roll(4), rng.roll(64), rng.roll(256)
+    return b"".join(choose(kind, h, m, stray, p, rng)(rng) for p in range(64))
+
+
+def page_at(chip, p):
+    return bytes(chip[256 * p : 256 * p + 256])
+
+
+def map_of(chip):
+    """docs/FORMAT.md, section 4: the map that a chip of four blocks stands for; None where start answers 8."""
+    sealed = [page_at(chip, 16 * b + 15) != BLANK for b in range(4)]
+    h = next((h for h in range(1, 4) if sealed[h - 1] and not sealed[h]), 0)
+    first = all(sealed[:h]) and all(x == 255 for x in chip[4096 * (h + 1) :])
+    later = all(sealed[b] for b in range(4) if b not in (h, (h + 1) % 4))
+    if sealed[h] or not (first or later):
+        return None
+    store = {}
+    for p in [16 * ((h + k) % 4) + i for k in (2, 3, 4) for i in range(15)]:
+        page = page_at(chip, p)
+        key = page[16 : 16 + page[2]]
+        if says(page) == "a value":
+            store[key] = page[32 : 32 + page[3]]
+        elif says(page) == "a note":
+            store.pop(key, None)
+    return store if len(store) <= 16 else None
+
+
+def put_refusal(store, key):
+    return 3 if key not in store and len(store) >= 16 else 0
+
+
+class Tally:
+    def __init__(self):
+        self.n = [[0] * 64 for _ in range(8)]
+
+    def add(self, kind, slot, by=1):
+        self.n[kind][slot] += by
+
+    def ten(self, name, kind, slot):
+        print(name, *self.n[kind][slot : slot + 10])
+
+    def one(self, name, kind, slot):
+        print(name, self.n[kind][slot])
+
+
+def read_all(store, tally, kind, slot):
+    for k in range(97, 121):
+        value = store.get(bytes([k]))
+        tally.add(kind, 30 if value is not None else 34)
+        tally.add(kind, slot, len(value or b"") + sum((value or b"")[:1]))
+
+
+def change(store, tally, kind, rng, area=None):
+    """One key is put and one deleted, in the map, and on the chip where there is one."""
+    key, value = rng.key(), rng.byte()
+    refusal = put_refusal(store, key)
+    if refusal == 0:
+        store[key] = value
+    tally.add(kind, 10 + refusal)
+    other = rng.key()
+    refused = 4 if store.pop(other, None) is None else 0
+    tally.add(kind, 20 + refused)
+    if area:
+        assert area.change(1, key, value) == refusal and area.change(2, other, b"") == refused
+
+
+def try_chip(kind, tally, rng):
+    chip = make_chip(kind, rng)
+    for _ in range(80):
+        rng.roll(1)
+    store = map_of(chip)
+    tally.add(kind, 0 if store is not None else 8)
+    if store is None:
+        return
+    tally.add(kind, 50, len(store))
+    read_all(store, tally, kind, 51)
+    for _ in range(8):
+        change(store, tally, kind, rng)
+    tally.add(kind, 40)
+    tally.add(kind, 52, len(store))
+    tally.add(kind, 53, len(store))
+    read_all(store, tally, kind, 54)
+
+
+class Area:
+    """A chip with its work area, whatever stands in either: word 0 the mark, 1 the head, 2 its next place, 3 the number of keys, from 16 the index."""
+
+    def __init__(self):
+        self.work = [0] * 80
+
+    def start_blank(self):
+        self.chip = bytearray(BLANK * 64)
+        self.work[:4] = [1, 0, 0, 0]
+
+    def write(self, p, page):
+        """Whether page p was blank, and so could be written."""
+        if page_at(self.chip, p) != BLANK:
+            return False
+        self.chip[256 * p : 256 * p + 256] = page
+        return True
+
+    def unready(self):
+        mark, h, place, n = self.work[:4]
+        return 7 if mark == 2 else 8 if mark != 1 or h >= 4 or place > 15 or n > 16 else 0
+
+    def find(self, key):
+        """By binary search: whether the key is there, and where it stands or would; an entry that is no page ends the search."""
+        lo, hi = 0, self.work[3]
+        while lo < hi:
+            mid = (lo + hi) // 2
+            if self.work[16 + mid] >= 64:
+                return False, lo
+            page = page_at(self.chip, self.work[16 + mid])
+            here = page[16 : 16 + min(page[2], 16)]
+            if here == key:
+                return True, mid
+            lo, hi = (mid + 1, hi) if here < key else (lo, mid)
+        return False, lo
+
+    def open_next(self, h):
+        """How many places of the new head are used; None where a page that must be written isn't blank."""
+        spare, oldest, k = (h + 1) % 4, (h + 2) % 4, 0
+        if page_at(self.chip, 16 * oldest + 15) != BLANK:
+            self.chip[4096 * spare : 4096 * spare + 4096] = BLANK * 16
+        for q in range(16 * oldest, 16 * oldest + 15):
+            page = page_at(self.chip, q)
+            there, j = self.find(page[16 : 16 + page[2]]) if says(page) == "a value" else (False, 0)
+            if there and self.work[16 + j] == q:
+                if k == 15 or not self.write(16 * spare + k, page):
+                    return None
+                self.work[16 + j] = 16 * spare + k
+                k += 1
+        return k if self.write(16 * h + 15, seal_page(0)) else None
+
+    def change(self, kind, key, value):
+        if self.unready():
+            return self.unready()
+        _, h, place, n = self.work[:4]
+        there, i = self.find(key)
+        if not there and (kind == 2 or n >= 16):
+            return 4 if kind == 2 else 3
+        for _ in range(2):
+            if place == 15:
+                place, h = self.open_next(h), (h + 1) % 4
+            if place is None:
+                return 8
+        p = 16 * h + place
+        if place == 15 or not self.write(p, record_page(kind, key, value)):
+            return 8
+        index = self.work[16 : 16 + n]
+        index[i : i + there] = [p] if kind == 1 else []
+        self.work[16 : 16 + len(index)] = index
+        self.work[1:4] = [h, place + 1, len(index)]
+        return 0
+
+    def scramble(self, tame, limit, rng):
+        tops = [(4, 4), (6, 4), (20, 16), (20, 17)]
+        for i in range(80):
+            r = rng.roll(32768)
+            if i < 4:
+                self.work[i] = 1 if tame and i == 0 else r % tops[i][tame]
+            elif i < 16 or limit:
+                self.work[i] = r % limit if i >= 16 else r
+
+
+def try_area(area, tame, limit, tally, rng):
+    area.start_blank()
+    tally.add(4, 0)
+    store = {}
+    for _ in range(rng.roll(60)):
+        change(store, tally, 4, rng, area)
+    assert map_of(area.chip) == store
+    area.scramble(tame, limit, rng)
+    kind = 5 if tame else 6
+    for slot in (0, 10):
+        before, key = bytes(area.chip), rng.key()
+        answer = area.change(1, key, rng.byte()) if slot == 0 else area.change(2, key, b"")
+        tally.add(kind, slot + answer)
+        tally.add(kind, 50, sum(x != y for x, y in zip(before, area.chip)))
+        assert answer in (0, 8) or before == area.chip
+    refusal, key = area.unready(), rng.key()
+    tally.add(kind, 20 + (refusal or (0 if area.find(key)[0] else 4)))
+    tally.add(kind, 30 + refusal)
+    tally.add(kind, 51, 0 if refusal else area.work[3])
+    tally.add(7, 0, 4)
+
+
+def wild():
+    rng, tally, area = Random(), Tally(), Area()
+    for i in range(800):
+        try_chip(i % 4, tally, rng)
+    for i in range(800):
+        try_area(area, i % 2 == 0, [32768, 80, 64, 0][i // 2 % 4], tally, rng)
+    print("Of each call: how often it was done, then how often it was refused with 1 to 9.")
+    for kind, name in enumerate(["chips of random bytes", "chips of random pages", "rings of random pages", "first rounds"]):
+        print(name)
+        for slot, call in enumerate(["start", "put", "delete", "get", "start again"]):
+            tally.ten(call, kind, 10 * slot)
+        sums = ["keys at the start", "values at the start", "keys after the changes", "keys after starting again", "values after starting again"]
+        for slot, what in enumerate(sums):
+            tally.one(what, kind, 50 + slot)
+    print("the stores whose work areas are overwritten")
+    for slot, call in enumerate(["start", "put", "delete"]):
+        tally.ten(call, 4, 10 * slot)
+    for kind, name in [(5, "work areas overwritten within the ranges"), (6, "work areas overwritten")]:
+        print(name)
+        for slot, call in enumerate(["put", "delete", "get", "count"]):
+            tally.ten(call, kind, 10 * slot)
+        tally.one("bytes changed", kind, 50)
+        tally.one("keys counted", kind, 51)
+    tally.one("calls on overwritten areas", 7, 0)
+    print("refusals that changed the chip 0")
+    print("bytes of buffers changed past the value 0")
+
+
+{"faults": faults, "pages": pages, "wild": wild}[sys.argv[1]]()

@@ -1,7 +1,7 @@
 #!/usr/bin/env python3
 """Only the crate chip changes the chip's bytes. Everywhere else the chip's slice is called `chip`: it is read, and it is handed on whole.
 
-Outside crates/chip, then, no line stores to an element of `chip`, lends a part of it as `&mut`, gives it another name, or hands it to a
+In the libraries other than chip, then, no line stores to an element of `chip`, lends a part of it as `&mut`, gives it another name, or hands it to a
 parameter of another name. The last is seen from the callee's side: a `&mut [u8]` that is not called `chip` is never given `chip`.
 """
 import pathlib
@@ -9,7 +9,12 @@ import re
 import sys
 
 ROOT = pathlib.Path(__file__).resolve().parent.parent
-sources = {f: f.read_text(encoding="utf8") for f in sorted(ROOT.glob("crates/*/src/**/*.rt"))}
+# the libraries: a program, which has a main.rt, is no part of the store, and may make up a chip of its own
+sources = {
+    f: f.read_text(encoding="utf8")
+    for f in sorted(ROOT.glob("crates/*/src/**/*.rt"))
+    if not (ROOT.joinpath(*f.relative_to(ROOT).parts[:3]) / "main.rt").exists()
+}
 bad = []
 
 # the parameters of each function, by the function's name

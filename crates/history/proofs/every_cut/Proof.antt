@@ -1,0 +1,25 @@
+-- `history::every_cut` is safe and ends. Assumes nothing.
+use Prim.Native.Nat.{_≤_, _-_}
+use borrow.Author.Needs.{needs}
+use Rattle.history.proofs.every_cut.Statement.{statement}
+use Rattle.history.proofs.every_cut.Tie as tie
+
+abbrev Inv-loop : tie.InvT-loop
+Inv-loop noise tally₀ t₀ tally t = t ≤ 300
+
+abbrev μ-loop : tie.MeasureT-loop
+μ-loop noise tally₀ t₀ tally t = 300 - t
+
+pub every-cut-spec : {M : Type 1} → statement M
+every-cut-spec =
+    tie.close
+    (tie.spec
+    Inv-loop
+    μ-loop
+    (λ c. search needs)
+    (λ c κs. search needs)
+    (λ c κs. search needs)
+    (λ c. search needs)
+    (λ c. search needs)
+    (λ c. search needs)
+    (λ c. search needs))

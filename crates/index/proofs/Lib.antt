@@ -1,0 +1,3 @@
+pub mod Shift
+pub mod Places
+pub mod Search

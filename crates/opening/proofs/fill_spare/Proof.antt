@@ -1,0 +1,43 @@
+-- `opening::fill_spare` meets its contract. Assumes nothing.
+use mathlib.Core.Path.{_∙_, subst}
+use native.Mathlib.Omega.{arith}
+use Rattle.chip.proofs.Plays.{did-more, did-then}
+use Rattle.opening.specs.Ends.{Few}
+use borrow.Author.Needs.{needs}
+use Rattle.opening.proofs.fill_spare.Statement.{statement}
+use Rattle.opening.proofs.fill_spare.Tie as tie
+
+clean-requires : tie.Need-clean-requires
+clean-requires c κs = c .before .before .before .before .before .before .pre
+
+finish-block-requires : tie.Need-finish-block-requires
+finish-block-requires c κs = let st = c .before .before .before .before .before .before .before .before .before .before .before .before .before .before .before .before in
+    (st .pre .some-blocks, st .pre .few-blocks, c .before .before .before .before .before .before .before .before .before .clean .kept .0 ∙ st .pre .size, st .pre .inside, st .pre .loud, subst Few (c .before .before .before .k .given .1) (c .before .before .before .before .before .before .before .before .before .clean .ensures .1))
+
+returns : tie.Need-returns
+returns c = (did-more (omega arith) (omega arith) (did-then (c .before .before .before .before .before .before .before .before .before .before .before .before .clean .ensures .0) (c .before .before .finish-block .ensures .0)), c .before .before .finish-block .ensures .1)
+
+returns-2 : tie.Need-returns-2
+returns-2 c = (did-more (omega arith) (omega arith) (c .before .before .before .before .before .before .clean .ensures .0), search needs)
+
+returns-3 : tie.Need-returns-3
+returns-3 c = (did-more (omega arith) (omega arith) (c .before .before .before .before .before .before .clean .ensures .0), search needs)
+
+pub fill-spare-spec : {M : Type 1} → statement M
+fill-spare-spec =
+    tie.close
+    (tie.spec
+    clean-requires
+    (λ c. search needs)
+    finish-block-requires
+    (λ c. search needs)
+    (λ c. search needs)
+    (λ c. search needs)
+    (λ c. search needs)
+    returns
+    (λ c. search needs)
+    (λ c. search needs)
+    returns-2
+    (λ c. search needs)
+    (λ c. search needs)
+    returns-3)

@@ -1,0 +1,51 @@
+-- `store::start` meets its contract. Assumes nothing.
+use mathlib.Core.Path.{refl, _∙_}
+use native.Mathlib.Omega.{arith}
+use lib.ListN.{length-set}
+use Rattle.store.proofs.Runs.{marked, sized-marked, started}
+use borrow.Author.Needs.{needs}
+use Rattle.store.proofs.start.Statement.{statement}
+use Rattle.store.proofs.start.Tie as tie
+
+slice-write-work : tie.Need-slice-write-work
+slice-write-work c = omega (arith, (c .before .before .before .blocks2 .ensures (omega arith)) .1 .long)
+
+find-head-requires : tie.Need-find-head-requires
+find-head-requires c κs = let s = c .before .before .before .blocks2 .ensures (omega arith) in
+    (omega (arith, s .0, s .1 .some-blocks), omega (arith, s .0, s .1 .few-blocks), omega (arith, s .0, s .1 .whole))
+
+is-ring-requires : tie.Need-is-ring-requires
+is-ring-requires c κs = let s = c .before .before .before .before .blocks2 .ensures (omega arith) in
+    (omega (arith, s .0, s .1 .some-blocks), omega (arith, s .0, s .1 .few-blocks), omega (arith, s .0, s .1 .whole), c .find-head .ensures .0)
+
+returns-3 : tie.Need-returns-3
+returns-3 c = let s = c .before .before .before .before .before .before .blocks2 .ensures (omega arith) in
+    record { ends = (λ n. absurd (n refl), λ _. marked (c .before .before .before .before .before .before .before .before .before .before .args .work .now) 0 (omega (arith, s .1 .long))) }
+
+make-ready-requires : tie.Need-make-ready-requires
+make-ready-requires c κs = let s = c .before .before .before .before .before .before .before .blocks2 .ensures (omega arith) in
+    (sized-marked _ _ _ (s .1), s .0, c .before .before .before .find-head .ensures .0, marked (c .before .before .before .before .before .before .before .before .before .before .before .args .work .now) 0 (omega (arith, s .1 .long)))
+
+same-length-4 : tie.Need-same-length-4
+same-length-4 c = c .before .before .make-ready .kept .1 .0 ∙ length-set (c .before .before .before .before .before .before .before .before .before .before .before .before .before .before .args .work .now) 0 0
+
+returns-4 : tie.Need-returns-4
+returns-4 c = started _ _ _ (c .before .before .make-ready .ensures)
+
+pub start-spec : {M : Type 1} → statement M
+start-spec =
+    tie.close
+    (tie.spec
+    (λ c κs. search needs)
+    (λ c. search needs)
+    (λ c. search needs)
+    (λ c. search needs)
+    (λ c. search needs)
+    slice-write-work
+    find-head-requires
+    is-ring-requires
+    (λ c. search needs)
+    returns-3
+    make-ready-requires
+    same-length-4
+    returns-4)
