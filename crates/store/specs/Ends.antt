@@ -62,8 +62,8 @@ ChangeKeptBy c ix c′ ix′ Broken = Unit {0}
 pub record ChangeKept (c ix c′ ix′ : List ℕ) (r : Change) : Type 0 where
   pub says : ChangeKeptBy c ix c′ ix′ r
 
--- A REFUSED CALL LEAVES CHIP AND WORK AREA AS THEY WERE, unless the power failed under it (7), or an area that no start made ready was found to lie in the
--- middle of the call (8)
+-- A REFUSED CALL LEAVES CHIP AND WORK AREA AS THEY WERE: refused with 1, 2, 3, 4 or 5. Of 7 and 8 nothing is said here: the power may have failed under the call, or
+-- an area that no start made ready may have been found to lie in the middle of it
 abbrev pub RefusedKept : List ℕ → List ℕ → List ℕ → List ℕ → Answer → Type 0
 RefusedKept c w c′ w′ (Done n) = Unit {0}
 RefusedKept c w c′ w′ (Refused k) = k ≢ 7 → k ≢ 8 → (c′ ≡ c) × (w′ ≡ w)
@@ -97,7 +97,7 @@ ReadyMadeBy w′ (Refused k) = (k ≡ 8) × (getD w′ 0 0 ≡ 0)
 pub record ReadyMade (w′ : List ℕ) (r : Answer) : Type 0 where
   pub ends : ReadyMadeBy w′ r
 
--- how format ends: at most B erases and no write; refused before the first of them it leaves chip and work area as they were
+-- how format ends: at most B erases and no write; refused with anything but 7 it leaves chip and work area as they were
 abbrev pub FormattedKept : List ℕ → List ℕ → List ℕ → List ℕ → Answer → Type 0
 FormattedKept c w c′ w′ (Done n) = getD w′ 0 0 ≡ 0
 FormattedKept c w c′ w′ (Refused k) = k ≢ 7 → (c′ ≡ c) × (w′ ≡ w)

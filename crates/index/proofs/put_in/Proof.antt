@@ -19,7 +19,7 @@ slice-write-index : tie.Need-slice-write-index
 slice-write-index c = let l = subst (λ (r : Found). Within (c .before .before .before .before .args .n) r) (c .before .found .given .1) (c .before .before .before .before .pre .1) in omega arith
 
 insert-requires : tie.Need-insert-requires
-insert-requires c κs = (subst (λ (r : Found). Within (c .before .before .before .before .before .args .n) r) (c .before .before .found2 .given .1) (c .before .before .before .before .before .pre .1), search needs)
+insert-requires c κs = let l = subst (λ (r : Found). Within (c .before .before .before .before .before .args .n) r) (c .before .before .found2 .given .1) (c .before .before .before .before .before .pre .1) in (omega arith, search needs)
 
 returns : tie.Need-returns
 returns c = let s = c .before .before .before .before in let l = subst (λ (r : Found). Within (s .args .n) r) (c .before .found .given .1) (s .pre .1) in

@@ -12,7 +12,7 @@ use Rattle.index.proofs.take_out.Statement.{statement}
 use Rattle.index.proofs.take_out.Tie as tie
 
 remove-requires : tie.Need-remove-requires
-remove-requires c κs = (subst (λ (r : Found). Within (c .before .before .before .before .before .args .n) r) (c .before .before .found .given .1) (c .before .before .before .before .before .pre .1), search needs)
+remove-requires c κs = let l = subst (λ (r : Found). Within (c .before .before .before .before .before .args .n) r) (c .before .before .found .given .1) (c .before .before .before .before .before .pre .1) in (omega arith, search needs)
 
 sub-result : tie.Need-sub-result
 sub-result c = let l = subst (λ (r : Found). Within (c .before .before .before .before .before .before .before .before .args .n) r) (c .before .before .before .before .before .found .given .1) (c .before .before .before .before .before .before .before .before .pre .1) in omega arith
