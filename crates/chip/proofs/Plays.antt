@@ -9,10 +9,10 @@ use Rattle.chip.specs.Play.{Op, erase, write, done, play, Allowed, EachA
 use Rattle.chip.proofs.Pages.{length-written, length-erased}
 
 -- what is left of the number after no operation, and after one and n more
-minus-none : (f : ℕ) → f - 0 ≡ f
+pub minus-none : (f : ℕ) → f - 0 ≡ f
 minus-none f = omega arith
 
-less : (f n : ℕ) → f - 1 - n ≡ f - suc n
+pub less : (f n : ℕ) → f - 1 - n ≡ f - suc n
 less f n = omega arith
 
 module _ (noise : List ℕ) where
@@ -68,29 +68,34 @@ writes-then [] os = omega arith
 writes-then (erase b ∷ rs) os = writes-then rs os
 writes-then (write p new ∷ rs) os = omega (arith, writes-then rs os)
 
--- ---- WHAT CALLS DID
+-- ---- WHAT CALLS DID. (Unfoldable: the layers above say of their operations what they are to the ring)
 module _ {noise : List ℕ} where
-  pub did-none : (c : List ℕ) (f : ℕ) → Did 0 0 noise c f c f
+  unfoldable pub did-none : (c : List ℕ) (f : ℕ) → Did 0 0 noise c f c f
   unfolding play EachAllowed
   did-none c f = record { ops = []; allowed = tt; chip = refl; fuse = sym (minus-none f); few-erases = omega arith; few-writes = omega arith }
 
-  pub did-erase : (b : ℕ) (c c′ : List ℕ) (f f′ : ℕ) → 4096 * b + 4096 ≤ length c → c′ ≡ erased (power f) noise b c → f′ ≡ f - 1 → Did 1 0 noise c f c′ f′
+  unfoldable pub did-erase : (b : ℕ) (c c′ : List ℕ) (f f′ : ℕ) → 4096 * b + 4096 ≤ length c → c′ ≡ erased (power f) noise b c → f′ ≡ f - 1 → Did 1 0 noise c f c′ f′
   unfolding play EachAllowed done
   did-erase b c c′ f f′ h e g =
       record { ops = erase b ∷ []; allowed = (h, tt); chip = e; fuse = g; few-erases = omega arith; few-writes = omega arith }
 
-  pub did-write : (p : ℕ) (new c c′ : List ℕ) (f f′ : ℕ) → Writable p new c → c′ ≡ written (power f) noise p new c → f′ ≡ f - 1 → Did 0 1 noise c f c′ f′
+  unfoldable pub did-write : (p : ℕ) (new c c′ : List ℕ) (f f′ : ℕ) → Writable p new c → c′ ≡ written (power f) noise p new c → f′ ≡ f - 1 → Did 0 1 noise c f c′ f′
   unfolding play EachAllowed done
   did-write p new c c′ f f′ w e g =
       record { ops = write p new ∷ []; allowed = (w, tt); chip = e; fuse = g; few-erases = omega arith; few-writes = omega arith }
 
+  -- the page that was meant, as the code lays it out
+  unfoldable pub did-meant : (p : ℕ) (g new c c′ : List ℕ) (f f′ : ℕ) → Writable p g c → new ≡ g → c′ ≡ written (power f) noise p new c → f′ ≡ f - 1 → Did 0 1 noise c f c′ f′
+  unfolding did-write
+  did-meant p g new c c′ f f′ w n e k = did-write p g c c′ f f′ w (e ∙ ap (λ (l : List ℕ). written (power f) noise p l c) n) k
+
   -- within larger bounds
-  pub did-more : {x y x′ y′ f f′ : ℕ} {c c′ : List ℕ} → x ≤ x′ → y ≤ y′ → Did x y noise c f c′ f′ → Did x′ y′ noise c f c′ f′
+  unfoldable pub did-more : {x y x′ y′ f f′ : ℕ} {c c′ : List ℕ} → x ≤ x′ → y ≤ y′ → Did x y noise c f c′ f′ → Did x′ y′ noise c f c′ f′
   did-more h k d =
       record { ops = d .ops; allowed = d .allowed; chip = d .chip; fuse = d .fuse; few-erases = omega (arith, d .few-erases); few-writes = omega (arith, d .few-writes) }
 
   -- one after the other
-  pub did-then : {x y x′ y′ f g k : ℕ} {c d e : List ℕ} → Did x y noise c f d g → Did x′ y′ noise d g e k → Did (x + x′) (y + y′) noise c f e k
+  unfoldable pub did-then : {x y x′ y′ f g k : ℕ} {c d e : List ℕ} → Did x y noise c f d g → Did x′ y′ noise d g e k → Did (x + x′) (y + y′) noise c f e k
   did-then {f = f} {g} {k} {c} {d} {e} a b =
       let run : EachAllowed noise (f - length (a .ops)) (b .ops) (play noise f (a .ops) c) =
       subst (λ (n : ℕ). EachAllowed noise n (b .ops) (play noise f (a .ops) c)) (a .fuse) (subst (λ (l : List ℕ). EachAllowed noise g (b .ops) l) (a .chip) (b .allowed)) in

@@ -11,7 +11,7 @@ use lib.Bits.{bitOr, bitAnd}
 use borrow.Rule.Slice.PartMut.{putMid, midOf}
 use Rattle.page.specs.Page.{Bytes, ors, ands}
 use Rattle.page.proofs.Cut.{length-each, ands-blank}
-use Rattle.chip.specs.Chip.{goes, stays, power, pageAt, blockAt, blankAt, splice, erased, written}
+use Rattle.chip.specs.Chip.{Power, goes, stays, power, pageAt, blockAt, blankAt, splice, erased, written}
 use Rattle.chip.proofs.Splice.{part-back, part-out}
 
 pub power-goes : (f : ℕ) → f ≡ 1 → power f ≡ goes
@@ -68,3 +68,20 @@ module _ (f p : ℕ) (noise new c xs : List ℕ) (h : 256 * p + 256 ≤ length c
       y ∙ ap (λ (l : List ℕ). ors l noise) (burnt ∙ ands-blank (take 256 (drop (256 * p) c)) new (length-part (256 * p) 256 c h) k bl small) in
       rw (power-goes f e)
       (part-back (256 * p) 256 c ys (ap length y₂ ∙ length-each bitOr new noise ∙ k) ∙ ap (λ (l : List ℕ). splice c (256 * p) l) y₂)
+
+-- ---- an operation by what is left of the number: it was whole, or it was cut short
+
+module _ (noise c c′ : List ℕ) (f f′ : ℕ) (k : f′ ≡ f - 1) where
+  module _ (p : ℕ) (g new : List ℕ) (n : new ≡ g) (e : c′ ≡ written (power f) noise p new c) where
+    pub write-stayed : 0 < f′ → c′ ≡ written stays noise p g c
+    write-stayed l = e ∙ ap (λ (t : Power). written t noise p new c) (power-stays f (omega arith)) ∙ ap (λ (x : List ℕ). written stays noise p x c) n
+
+    pub write-went : 0 < f → f′ ≡ 0 → c′ ≡ written goes noise p g c
+    write-went l z = e ∙ ap (λ (t : Power). written t noise p new c) (power-goes f (omega arith)) ∙ ap (λ (x : List ℕ). written goes noise p x c) n
+
+  module _ (b : ℕ) (e : c′ ≡ erased (power f) noise b c) where
+    pub erase-stayed : 0 < f′ → c′ ≡ erased stays noise b c
+    erase-stayed l = e ∙ ap (λ (t : Power). erased t noise b c) (power-stays f (omega arith))
+
+    pub erase-went : 0 < f → f′ ≡ 0 → c′ ≡ erased goes noise b c
+    erase-went l z = e ∙ ap (λ (t : Power). erased t noise b c) (power-goes f (omega arith))

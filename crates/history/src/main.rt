@@ -1,6 +1,7 @@
 // The history that document 03 works by hand in section 4, with every cut. B = 4: put a = 1, put a = 2, delete a, put b = 9, and then puts and deletes of
 // other keys, until each block was erased at least once. For each operation on the chip, the history is run from a blank chip with the power failing at that
 // operation; the store is started again, and its map must be the one before the interrupted call or the one after it. Then the history is run to its end.
+// Second cuts: after the start that follows such a cut, the interrupted call is made again with the power failing at each of its operations in turn.
 use libc::STDOUT_FILENO;
 use store::Answer;
 ghost use mathlib.Core.Path.{_≡_};
@@ -12,6 +13,9 @@ const CALLS: usize = 140;
 
 // Power for longer than the history lasts.
 const LONG: u64 = 1000;
+
+// No call's number: something went wrong.
+const ASTRAY: usize = 1000;
 
 // ---- the history and its map
 
@@ -189,7 +193,7 @@ fn holds(chip: &[u8], work: &[u32], n: usize) -> bool {
 
 // ---- one cut
 
-// How a history with one cut went.
+// How a history with a cut, or with two, went.
 enum Outcome {
     Uncut,
     Before,
@@ -221,44 +225,77 @@ fn recovers(chip: &mut [u8], work: &mut [u32], noise: &[u8; 4096], i: usize) -> 
     starts(chip, work)
 }
 
+// Which of two maps it is, by the number of calls: the one after `before` calls or the one after `after`; ASTRAY for another.
+fn map_now(chip: &[u8], work: &[u32], before: usize, after: usize) -> usize {
+    if holds(chip, work, before) {
+        return before;
+    }
+    if holds(chip, work, after) {
+        return after;
+    }
+    ASTRAY
+}
+
+// The number of calls up to call i and with it.
+fn with(i: usize) -> usize {
+    if i < CALLS {
+        return i + 1;
+    }
+    CALLS
+}
+
+// The outcome of a cut of call i that left the map after n calls.
+fn outcome_of(n: usize, i: usize) -> Outcome {
+    if n == i {
+        return Outcome::Before;
+    }
+    Outcome::After
+}
+
 // After a start that follows the cut of call i: which of the two maps it is, and whether the history then ends right.
 fn settle(chip: &mut [u8], work: &mut [u32], noise: &[u8; 4096], i: usize) -> Outcome {
-    if holds(chip, work, i) {
-        if ends_right(chip, work, noise, i) {
-            return Outcome::Before;
-        }
+    let n = map_now(chip, work, i, with(i));
+    if n == ASTRAY {
         return Outcome::Wrong;
     }
-    if i < CALLS {
-        if holds(chip, work, i + 1) {
-            if ends_right(chip, work, noise, i + 1) {
-                return Outcome::After;
-            }
-        }
+    if ends_right(chip, work, noise, n) {
+        return outcome_of(n, i);
     }
     Outcome::Wrong
 }
 
-// The history ran to its end before the power went.
-fn uncut(chip: &[u8], work: &[u32]) -> Outcome {
-    if holds(chip, work, CALLS) {
+// The first n calls were made before the power went.
+fn uncut(chip: &[u8], work: &[u32], n: usize) -> Outcome {
+    if holds(chip, work, n) {
         return Outcome::Uncut;
     }
     Outcome::Wrong
 }
 
-// The history on a blank chip, with the power going at operation t.
-fn cut_at(chip: &mut [u8], work: &mut [u32], noise: &[u8; 4096], t: u64) -> Outcome {
+// The history on a blank chip, with the power going at operation t, and a start. Answers the interrupted call; CALLS if none was, ASTRAY if it did not recover.
+fn interrupted(chip: &mut [u8], work: &mut [u32], noise: &[u8; 4096], t: u64) -> usize {
     let mut fuse = t;
     if !starts(chip, work) {
-        return Outcome::Wrong;
+        return ASTRAY;
     }
     let i = run(chip, work, &mut fuse, noise, 0);
     if i == CALLS {
-        return uncut(chip, work);
+        return CALLS;
     }
-    if !recovers(chip, work, noise, i) {
+    if recovers(chip, work, noise, i) {
+        return i;
+    }
+    ASTRAY
+}
+
+// The history on a blank chip, with the power going at operation t.
+fn cut_at(chip: &mut [u8], work: &mut [u32], noise: &[u8; 4096], t: u64) -> Outcome {
+    let i = interrupted(chip, work, noise, t);
+    if i == ASTRAY {
         return Outcome::Wrong;
+    }
+    if i == CALLS {
+        return uncut(chip, work, CALLS);
     }
     settle(chip, work, noise, i)
 }
@@ -340,6 +377,133 @@ fn every_cut(noise: &[u8; 4096]) -> Tally {
     while t < 300 {
         let outcome = try_cut(noise, t);
         tally = add(tally, outcome);
+        t += 1;
+    }
+    tally
+}
+
+// ---- second cuts
+
+// What call i answers on the map after n calls: 0, and 4 for a delete that was made already.
+fn due(n: usize, i: usize) -> u32 {
+    if (i < n) & (value_of(i) == 0) {
+        return 4;
+    }
+    0
+}
+
+// Call i is made once more, on the map after n calls, with power that stays. Whether the map is then the one after it, and the history ends right.
+fn once_more(chip: &mut [u8], work: &mut [u32], noise: &[u8; 4096], n: usize, i: usize) -> bool {
+    let mut fuse = LONG;
+    if call(chip, work, &mut fuse, noise, i) != due(n, i) {
+        return false;
+    }
+    if !holds(chip, work, with(i)) {
+        return false;
+    }
+    ends_right(chip, work, noise, with(i))
+}
+
+// The power has gone during call i, made again on the map after n calls: that map or the one after the call is found, and the call can be made once more.
+fn settle_again(
+    chip: &mut [u8],
+    work: &mut [u32],
+    noise: &[u8; 4096],
+    n: usize,
+    i: usize,
+) -> Outcome {
+    if !recovers(chip, work, noise, i) {
+        return Outcome::Wrong;
+    }
+    let m = map_now(chip, work, n, with(i));
+    if m == ASTRAY {
+        return Outcome::Wrong;
+    }
+    if once_more(chip, work, noise, m, i) {
+        return outcome_of(m, i);
+    }
+    Outcome::Wrong
+}
+
+// After a start that follows the cut of call i: it is made again, with the power going at its operation s.
+fn cut_again(chip: &mut [u8], work: &mut [u32], noise: &[u8; 4096], i: usize, s: u64) -> Outcome {
+    let n = map_now(chip, work, i, with(i));
+    if n == ASTRAY {
+        return Outcome::Wrong;
+    }
+    let mut fuse = s;
+    let k = call(chip, work, &mut fuse, noise, i);
+    if k == due(n, i) {
+        return uncut(chip, work, with(i));
+    }
+    if k != 7 {
+        return Outcome::Wrong;
+    }
+    settle_again(chip, work, noise, n, i)
+}
+
+// The history on a blank chip, with the power going at operation t, and then at operation s of the call made again.
+fn cut_twice(
+    chip: &mut [u8],
+    work: &mut [u32],
+    first: &[u8; 4096],
+    second: &[u8; 4096],
+    t: u64,
+    s: u64,
+) -> Outcome {
+    let i = interrupted(chip, work, first, t);
+    if i == ASTRAY {
+        return Outcome::Wrong;
+    }
+    if i == CALLS {
+        return uncut(chip, work, CALLS);
+    }
+    cut_again(chip, work, second, i, s)
+}
+
+// The same, from a blank chip.
+fn try_second(first: &[u8; 4096], second: &[u8; 4096], t: u64, s: u64) -> Outcome {
+    let mut chip = [255u8; 16384];
+    let mut work = [0u32; 80];
+    cut_twice(&mut chip, &mut work, first, second, t, s)
+}
+
+// Whether nothing was left to cut.
+fn is_uncut(outcome: Outcome) -> bool {
+    match outcome {
+        Outcome::Uncut => true,
+        Outcome::Before => false,
+        Outcome::After => false,
+        Outcome::Wrong => false,
+    }
+}
+
+// After the cut at operation t: the power goes at each operation of the call made again, until it ends whole. A call that never does is wrong.
+fn second_cuts(before: Tally, first: &[u8; 4096], second: &[u8; 4096], t: u64) -> Tally {
+    let mut tally = before;
+    let mut s: u64 = 1;
+    while s < 100 {
+        let outcome = try_second(first, second, t, s);
+        if is_uncut(outcome) {
+            return tally;
+        }
+        tally = add(tally, outcome);
+        s += 1;
+    }
+    add_wrong(tally)
+}
+
+// Every second cut after every first one.
+fn every_second(first: &[u8; 4096], second: &[u8; 4096]) -> Tally {
+    let mut tally = Tally {
+        cuts: 0,
+        before: 0,
+        after: 0,
+        wrong: 0,
+    };
+    let mut t: u64 = 1;
+    while t < 300 {
+        tally = second_cuts(tally, first, second, t);
         t += 1;
     }
     tally
@@ -472,16 +636,16 @@ fn print_five(t: u64, v: u8) {
 // Which noise it is.
 fn print_noise(which: u8) {
     match which {
-        0 => text(b"noise all zeros: "),
-        1 => text(b"noise all ones: "),
-        2 => text(b"noise mixed: "),
-        _ => text(b"noise that keeps page 1: "),
+        0 => text(b"noise all zeros"),
+        1 => text(b"noise all ones"),
+        2 => text(b"noise mixed"),
+        _ => text(b"noise that keeps page 1"),
     }
 }
 
 // How the cuts went.
 fn print_tally(t: Tally) {
-    number(b"cuts ", t.cuts);
+    number(b": cuts ", t.cuts);
     number(b", as before the call ", t.before);
     number(b", as after it ", t.after);
     number(b", wrong ", t.wrong);
@@ -496,7 +660,26 @@ fn try_noise(which: u8) {
     print_tally(tally);
 }
 
-// Every cut with every noise, and step 5.
+// Every second cut with one noise, after every first cut with another.
+fn try_pair(which: u8, again: u8) {
+    let first = make_noise(which);
+    let second = make_noise(again);
+    let tally = every_second(&first, &second);
+    print_noise(which);
+    text(b", then ");
+    print_noise(again);
+    print_tally(tally);
+}
+
+// Every second cut with every noise, after every first cut with one noise.
+fn try_again(which: u8) {
+    try_pair(which, 0);
+    try_pair(which, 1);
+    try_pair(which, 2);
+    try_pair(which, 3);
+}
+
+// Every cut with every noise, and step 5; then every second cut with every two noises.
 fn main() {
     try_noise(0);
     try_noise(1);
@@ -504,4 +687,8 @@ fn main() {
     try_noise(3);
     let noise = make_noise(3);
     step_five(&noise);
+    try_again(0);
+    try_again(1);
+    try_again(2);
+    try_again(3);
 }

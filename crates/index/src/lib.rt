@@ -45,8 +45,8 @@ pub fn compare(a: &[u8], b: &[u8]) -> Order
     Order::Same
 }
 
-// A page number of the index.
-fn page_number(x: u32) -> usize
+// A word of the work area as a number.
+pub fn word(x: u32) -> usize
     ensures { λ r. ⌜ r ≡ x ⌝ }
 {
     x as usize
@@ -63,7 +63,7 @@ pub fn find(chip: &[u8], index: &[u32], n: usize, key: &[u8]) -> Found
     let mut hi = n;
     while lo < hi {
         let mid = lo + (hi - lo) / 2;
-        let p = page_number(index[mid]);
+        let p = word(index[mid]);
         if pages <= p {
             return Found::Missing(lo);
         }

@@ -448,11 +448,20 @@ fn room(chip: &mut [u8], work: &mut [u32]) {
     again(chip, work, &first, &seventeenth);
 }
 
+// The value of put i: another one for each put.
+fn value_of(i: u64) -> [u8; 3] {
+    [
+        (i % 256) as u8,
+        (i / 256 % 256) as u8,
+        (i / 65536 % 256) as u8,
+    ]
+}
+
 // How many puts of one key, with changing values, are done before one is refused.
 fn put_often(chip: &mut [u8], work: &mut [u32], end: u64) -> u64 {
     let mut i: u64 = 0;
     while i < end {
-        let value = [(i % 256) as u8, (i / 256 % 256) as u8];
+        let value = value_of(i);
         if !is_done(put(chip, work, b"a", &value)) {
             return i;
         }
@@ -461,13 +470,14 @@ fn put_often(chip: &mut [u8], work: &mut [u32], end: u64) -> u64 {
     end
 }
 
-// Whether the value is the last of 2,000: 1,999 is 7 * 256 + 207.
-fn get_last(chip: &[u8], work: &[u32]) {
-    let mut buffer = [0u8; 2];
+// Whether the value of the key is the one of put i.
+fn get_last(chip: &[u8], work: &[u32], i: u64) {
+    let mut buffer = [0u8; 3];
     tell(b"get", get(chip, work, b"a", &mut buffer));
+    let last = value_of(i);
     ask(
         b"it is the last value",
-        (buffer[0] == 207) & (buffer[1] == 7),
+        (buffer[0] == last[0]) & (buffer[1] == last[1]) & (buffer[2] == last[2]),
     );
 }
 
@@ -475,10 +485,12 @@ fn get_last(chip: &[u8], work: &[u32]) {
 fn often(chip: &mut [u8], work: &mut [u32]) {
     say(b"start", start(chip, work));
     number(
-        b"puts of one key that are done, of 2,000: ",
-        put_often(chip, work, 2000),
+        b"puts of one key that are done, of 1,000,000: ",
+        put_often(chip, work, 1000000),
     );
-    get_last(chip, work);
+    get_last(chip, work, 999999);
+    say(b"start", start(chip, work));
+    get_last(chip, work, 999999);
     crowded(chip, work);
 }
 
@@ -489,10 +501,10 @@ fn crowded(chip: &mut [u8], work: &mut [u32]) {
         fill(chip, work, 15) as u64,
     );
     number(
-        b"puts of one key that are done, of 2,000: ",
-        put_often(chip, work, 2000),
+        b"puts of one key that are done, of 100,000: ",
+        put_often(chip, work, 100000),
     );
-    get_last(chip, work);
+    get_last(chip, work, 99999);
     tell(b"count", count(chip, work));
 }
 

@@ -25,7 +25,7 @@ module _ {A : Type 0} where
   refuse-never n k true a d f e = d (let z : n ≡ k = cc in z)
   refuse-never n k false a d f e = f e
 
-  done-never : (x : A) (k : ℕ) → done x ≢ refused k
+  pub done-never : (x : A) (k : ℕ) → done x ≢ refused k
   done-never x k e = let z : _≡_ {A = ℕ} 0 1 = cc in omega arith
 
   -- where the test does not hold, it is not there
@@ -46,7 +46,7 @@ module _ {A : Type 0} where
   refuse-held n false x e = absurd (done-never x n e)
 
   -- an answer that is done comes from behind it, and then the test did not hold
-  refuse-done : (n : ℕ) (t : Bool) (a : Answer A) (x : A) → refuse n t a ≡ done x → (t ≡ false) × (a ≡ done x)
+  pub refuse-done : (n : ℕ) (t : Bool) (a : Answer A) (x : A) → refuse n t a ≡ done x → (t ≡ false) × (a ≡ done x)
   unfolding refuse
   refuse-done n true a x e = absurd (let z : _≡_ {A = ℕ} 0 1 = cc in omega arith)
   refuse-done n false a x e = (refl, e)

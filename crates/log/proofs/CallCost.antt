@@ -1,27 +1,24 @@
--- What a call costs: the potential pays for its openings, and no value is moved twice in it, so it is short. Assumes nothing.
-use mathlib.Core.Path.{_≡_, refl, ap, _∙_}
-use mathlib.Core.Logic.{_⊎_, inl, inr}
+-- What a call costs: an opening lowers the potential, and no value is moved twice in a call, so it is short. Assumes nothing.
+use mathlib.Core.Path.{_≡_, ap, _∙_}
 use mathlib.Core.List.{List}
 use mathlib.Core.Bool.{Bool, true, false}
 use Prim.Native.Nat.{ℕ, suc, _+_, _-_, _*_, _%_, _≤_, _<_}
-use native.Mathlib.Nat.{mul-le-mul-left}
-use native.Mathlib.Decide.{decLt}
 use native.Mathlib.Omega.{arith}
 use lib.ListN.{length}
+use Rattle.chip.specs.Play.{Op, erases, writes}
 use Rattle.record.specs.Record.{Rec}
 use Rattle.log.specs.Map.{Map}
 use Rattle.log.specs.Log.{Placed, oldest}
 use Rattle.log.specs.Ring.{Chip, sealed, spare, Ring, next, table, room}
-use Rattle.log.specs.Call.{Page, Erased, Op, State, resting, copying, Trace, stop, append, append-cut, erasing, erase-cut, first, skip, copy, copy-cut, seal, seal-cut, erases, writes, opened}
-use Rattle.log.specs.Wear.{ages, phi, potential, Calls, begin, call}
-use Rattle.log.proofs.RingLaws.{round-later, next-is}
+use Rattle.log.specs.Call.{Page, Erased, State, resting, copying, Trace, stop, append, append-cut, erasing, erase-cut, first, skip, copy, copy-cut, seal, seal-cut}
+use Rattle.log.specs.Wear.{ages, phi, potential}
+use Rattle.log.proofs.RingLaws.{next-is}
 use Rattle.log.proofs.Start.{blank-ring, blank-table}
-use Rattle.log.proofs.Steps.{Written, Spoilt}
 use Rattle.log.proofs.WearLaws.{ripes, ripes-le}
-use Rattle.log.proofs.Opening.{Opening, fresh, opening-fresh, opening-ring, opening-count, opening-next, opening-progress, copy-still}
-use Rattle.log.proofs.Potential.{potential-at, block-potential, unsealed-potential}
-use Rattle.log.proofs.Append.{place, put-paid, lost-paid, opened-paid}
-use Rattle.log.proofs.Crash.{append-written, append-cut-at, erase-done, skip-done, copy-done}
+use Rattle.log.proofs.Opening.{Opening, fresh, opening-fresh, opening-ring, opening-count, opening-next, opening-progress}
+use Rattle.log.proofs.Potential.{potential-at}
+use Rattle.log.proofs.Append.{opened-paid}
+use Rattle.log.proofs.Crash.{erase-done, skip-done, copy-done}
 
 -- ---- what holds at each state of a call
 module _ (B : ℕ) where
@@ -41,25 +38,20 @@ module _ (B : ℕ) where
   Fit (resting c h) = Rest c h
   Fit (copying h c₀ c t s) = Copies h c₀ c t s
 
-  -- the potential at the last rest
-  abbrev before : State → ℕ
-  before (resting c h) = potential B c
-  before (copying h c₀ c t s) = potential B c₀
-
 module _ (B : ℕ) (big : 4 ≤ B) where
   -- ---- the steps keep it
 
-  erased-fits : (c d : Chip) (h : ℕ) → next c h ≡ 15 → sealed c ((h + 2) % B) ≡ true → Erased (spare B h) c d → Rest B c h → Copies B h c d (oldest B (h + B)) (fresh B h)
+  pub erased-fits : (c d : Chip) (h : ℕ) → next c h ≡ 15 → sealed c ((h + 2) % B) ≡ true → Erased (spare B h) c d → Rest B c h → Copies B h c d (oldest B (h + B)) (fresh B h)
   erased-fits c d h n t w g = record { low = omega arith; opening = erase-done B big c d h (g .ring) t w; rest = g; full = n }
 
-  first-fits : (c : Chip) (h : ℕ) → next c h ≡ 15 → sealed c ((h + 2) % B) ≡ false → Rest B c h → Copies B h c c (oldest B (h + B)) (fresh B h)
+  pub first-fits : (c : Chip) (h : ℕ) → next c h ≡ 15 → sealed c ((h + 2) % B) ≡ false → Rest B c h → Copies B h c c (oldest B (h + B)) (fresh B h)
   first-fits c h n t g = record { low = omega arith; opening = opening-fresh B big h c (g .ring) t; rest = g; full = n }
 
-  on-fits : (h : ℕ) (c₀ c d : Chip) (t s u : ℕ) → Opening B h c₀ d (suc t) u → Copies B h c₀ c t s → Copies B h c₀ d (suc t) u
+  pub on-fits : (h : ℕ) (c₀ c d : Chip) (t s u : ℕ) → Opening B h c₀ d (suc t) u → Copies B h c₀ c t s → Copies B h c₀ d (suc t) u
   on-fits h c₀ c d t s u o g = record { low = omega (arith, g .low); opening = o; rest = g .rest; full = g .full }
 
   module _ (h : ℕ) (c₀ c d : Chip) (s : ℕ) (w : Page (16 * h + 15) c d) (on : sealed d h ≡ true) (g : Copies B h c₀ c (oldest B (h + B) + 15) s) where
-    seal-fits : Rest B d (spare B h)
+    pub seal-fits : Rest B d (spare B h)
     seal-fits =
         record {
           ring = opening-ring B big h c₀ c d s (g .opening) w on;
@@ -69,39 +61,6 @@ module _ (B : ℕ) (big : 4 ≤ B) where
     -- AN OPENING lowers the potential by 7 B + 1 at least
     pub seal-paid : potential B d + 7 * B + 1 ≤ potential B c₀
     seal-paid = opened-paid B big h c₀ c d s (g .opening) w on (g .rest .ring) (g .full) (g .rest .few)
-
-  -- ---- THE POTENTIAL
-
-  module _ (x : Rec) where
-    paid-from : (st : State) (c′ : Chip) (l : List Op) (b : Bool) (k : Trace B x st c′ l b) → Fit B st → potential B c′ + 7 * (B * opened k) ≤ before B st + B
-    paid-from _ _ _ _ (stop (resting c h)) g = omega arith
-    paid-from _ _ _ _ (stop (copying h c₀ c t s)) g = omega (arith, g .opening .still)
-    paid-from _ _ _ _ (append c c′ h n w) g = omega (arith, put-paid B big c c′ h (g .ring) n x (append-written B big c c′ h (g .ring) n x w))
-    paid-from _ _ _ _ (append-cut c c′ h n w) g = go (append-cut-at B big c c′ h (g .ring) n x w)
-      where
-        go : Written B (place B big c h) x c c′ ⊎ Spoilt B (place B big c h) c c′ → potential B c′ + 7 * (B * 0) ≤ potential B c + B
-        go (inl v) = omega (arith, put-paid B big c c′ h (g .ring) n x v)
-        go (inr v) = omega (arith, lost-paid B big c c′ h (g .ring) n v)
-    paid-from _ _ _ _ (erasing c d c′ h l b n t w k) g = paid-from (copying h c d (oldest B (h + B)) (fresh B h)) c′ l b k (erased-fits c d h n t w g)
-    paid-from _ _ _ _ (erase-cut c c′ h n t w) g = omega (arith, block-potential B big c c′ h (g .ring) w (round-later B big c h (g .ring) t))
-    paid-from _ _ _ _ (first c c′ h l b n t k) g = paid-from (copying h c c (oldest B (h + B)) (fresh B h)) c′ l b k (first-fits c h n t g)
-    paid-from _ _ _ _ (skip h c₀ c c′ t s l b i dead k) g =
-        paid-from (copying h c₀ c (suc t) s) c′ l b k (on-fits h c₀ c c t s s (skip-done B big c c h c₀ t s i dead (g .opening)) g)
-    paid-from _ _ _ _ (copy h c₀ c d c′ t s l b r a i at live stands w k) g =
-        paid-from (copying h c₀ d (suc t) (suc s)) c′ l b k (on-fits h c₀ c d t s (suc s) (copy-done B big c d h c₀ t s r a (g .low) i at live stands (g .opening) w) g)
-    paid-from _ _ _ _ (copy-cut h c₀ c c′ t s r a i at live stands w) g =
-        omega (arith, copy-still B big h c₀ c c′ t s r r a (g .low) i at live stands (g .opening) (w .page))
-    paid-from _ _ _ _ (seal h c₀ c d c′ s l b w k) g =
-        omega (arith, seal-paid h c₀ c d s (w .page) (w .fills) g, paid-from (resting d (spare B h)) c′ l b k (seal-fits h c₀ c d s (w .page) (w .fills) g))
-    paid-from _ _ _ _ (seal-cut h c₀ c c′ s w) g = go (sealed c′ h) refl
-      where
-        go : (b : Bool) → sealed c′ h ≡ b → potential B c′ + 7 * (B * 0) ≤ potential B c₀ + B
-        go true on = omega (arith, seal-paid h c₀ c c′ s (w .page) on g)
-        go false off = omega (arith, unsealed-potential B big c c′ h (g .opening .ring) (w .page) off, g .opening .still)
-
-    -- A CALL PAYS AT MOST B, and each opening returns 7 B
-    pub call-paid : (c c′ : Chip) (h : ℕ) (l : List Op) (b : Bool) (k : Trace B x (resting c h) c′ l b) → Rest B c h → potential B c′ + 7 * (B * opened k) ≤ potential B c + B
-    call-paid c c′ h l b k g = paid-from (resting c h) c′ l b k g
 
   -- ---- PROGRESS: after j openings and K copies no value was moved twice, and all openings but the last were full of copies
 
@@ -154,8 +113,8 @@ module _ (B : ℕ) (big : 4 ≤ B) where
     short j K _ _ _ _ (stop (resting c h)) g m = (omega (arith, m .rows, m .most), omega (arith, m .rows, m .most))
     short j K _ _ _ _ (stop (copying h c₀ c t s)) g m =
         (omega (arith, within h c₀ c t s j K (g .opening) (g .full) m, m .full (g .full)), omega (arith, m .rows, m .full (g .full)))
-    short j K _ _ _ _ (append c c′ h n w) g m = (omega (arith, m .rows, m .most), omega (arith, m .rows, m .most))
-    short j K _ _ _ _ (append-cut c c′ h n w) g m = (omega (arith, m .rows, m .most), omega (arith, m .rows, m .most))
+    short j K _ _ _ _ (append c c′ h new n w) g m = (omega (arith, m .rows, m .most), omega (arith, m .rows, m .most))
+    short j K _ _ _ _ (append-cut c c′ h new n w) g m = (omega (arith, m .rows, m .most), omega (arith, m .rows, m .most))
     short j K _ _ _ _ (erasing c d c′ h l b n t w k) g m =
         let y : Short j K (copying h c d (oldest B (h + B)) (fresh B h)) l = short j K (copying h c d (oldest B (h + B)) (fresh B h)) c′ l b k (erased-fits c d h n t w g) m in
         (omega (arith, y .0), omega (arith, y .1))
@@ -165,18 +124,18 @@ module _ (B : ℕ) (big : 4 ≤ B) where
         (omega (arith, y .0), omega (arith, y .1))
     short j K _ _ _ _ (skip h c₀ c c′ t s l b i dead k) g m =
         short j K (copying h c₀ c (suc t) s) c′ l b k (on-fits h c₀ c c t s s (skip-done B big c c h c₀ t s i dead (g .opening)) g) m
-    short j K _ _ _ _ (copy h c₀ c d c′ t s l b r a i at live stands w k) g m =
+    short j K _ _ _ _ (copy h c₀ c d c′ t s new l b r a i at live stands w k) g m =
         let y : Short j K (copying h c₀ d (suc t) (suc s)) l =
         short j K (copying h c₀ d (suc t) (suc s)) c′ l b k (on-fits h c₀ c d t s (suc s) (copy-done B big c d h c₀ t s r a (g .low) i at live stands (g .opening) w) g) m in
         (omega (arith, y .0, g .opening .copies), omega (arith, y .1))
-    short j K _ _ _ _ (copy-cut h c₀ c c′ t s r a i at live stands w) g m =
+    short j K _ _ _ _ (copy-cut h c₀ c c′ t s new r a i at live stands w) g m =
         (omega (arith, within h c₀ c t s j K (g .opening) (g .full) m, m .full (g .full)), omega (arith, m .rows, m .full (g .full)))
-    short j K _ _ _ _ (seal h c₀ c d c′ s l b w k) g m =
+    short j K _ _ _ _ (seal h c₀ c d c′ s new l b w k) g m =
         let y : Short (suc j) (K + (s - fresh B h)) (resting d (spare B h)) l =
         short (suc j) (K + (s - fresh B h)) (resting d (spare B h)) c′ l b k (seal-fits h c₀ c d s (w .page) (w .fills) g)
         (moved-open h c₀ c d s j K (g .opening) (w .page) (w .fills) (g .full) m) in
         (omega (arith, y .0), omega (arith, y .1))
-    short j K _ _ _ _ (seal-cut h c₀ c c′ s w) g m =
+    short j K _ _ _ _ (seal-cut h c₀ c c′ s new w) g m =
         (omega (arith, within h c₀ c (oldest B (h + B) + 15) s j K (g .opening) (g .full) m, m .full (g .full)), omega (arith, m .rows, m .full (g .full)))
 
     -- A CALL IS SHORT: at most 8 (B - 2) + B writes and 8 (B - 2) / 15 + 1 erases
@@ -186,25 +145,11 @@ module _ (B : ℕ) (big : 4 ≤ B) where
         let y : Short 0 0 (resting c h) l = short 0 0 (resting c h) c′ l b k g (moved-start c h (g .few)) in
         (omega (arith, y .0), omega (arith, y .1))
 
-  -- ---- OVER n CALLS from a blank chip, whose potential is 0
+  -- ---- A BLANK CHIP costs nothing
 
-  blank-potential : (c : Chip) → ((p : ℕ) → p < 16 * B → c .full p ≡ false) → potential B c ≡ 0
+  pub blank-potential : (c : Chip) → ((p : ℕ) → p < 16 * B → c .full p ≡ false) → potential B c ≡ 0
   blank-potential c f =
       let r : Ring B c 0 = blank-ring B big c f in
       let n : next c 0 ≡ 0 = next-is c 0 15 0 (omega arith) (λ j x y. f (16 * 0 + j) (omega arith)) (λ j e. absurd (omega arith)) in
       potential-at B big c 0 r ∙ ap (λ (m : Map Placed). phi (B - 2) (next c 0) (ages (0 + B) m)) (blank-table B big c f)
       ∙ ap (λ (u : ℕ). phi (B - 2) u 0) n ∙ omega arith
-
-  -- the potential, and 7 B for each opening, are paid by B for each call
-  pub calls-paid : (c : Chip) (n r : ℕ) → Calls B c n r → potential B c + 7 * (B * r) ≤ B * n
-  calls-paid _ _ _ (begin c f) = omega (arith, blank-potential c f)
-  calls-paid _ _ _ (call x c c′ l b h n r g few k y) =
-      omega (arith, call-paid x c c′ h l b k (record { ring = g; few = few }), calls-paid c n r y)
-
-  -- AT MOST n / 7 OPENINGS
-  pub calls-few : (c : Chip) (n r : ℕ) → Calls B c n r → 7 * r ≤ n
-  calls-few c n r y = go (decLt n (7 * r))
-    where
-      go : Dec (n < 7 * r) → 7 * r ≤ n
-      go (no l) = omega arith
-      go (yes l) = absurd (omega (arith, mul-le-mul-left B l, calls-paid c n r y))

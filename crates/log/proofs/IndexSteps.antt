@@ -1,59 +1,28 @@
--- THE INDEX AFTER EACH STEP, as an array holds it: an append puts the record's page in, in the place of another, or takes one out; a copy replaces one; an erase and
--- a seal leave it as it is. Assumes nothing.
-use mathlib.Core.Path.{_≡_, refl, ap, _∙_}
-use mathlib.Core.List.{List, _∷_, _++_}
-use mathlib.Core.Option.{Option, none, some}
-use mathlib.Core.Bool.{true}
-use Prim.Native.Nat.{ℕ, suc, _+_, _-_, _*_, _≤_, _<_}
-use lib.ListN.{length, take, drop, set}
+-- THE INDEX IN AN OPENING, as an array holds it: it begins with the table's, and a copy replaces one entry. (After the seal: `opening-ready`.) Assumes nothing.
+use mathlib.Core.Path.{_≡_, refl, sym, ap, _∙_}
+use mathlib.Core.Option.{some}
+use Prim.Native.Nat.{ℕ, suc, _+_, _-_, _≤_, _<_}
+use native.Mathlib.Omega.{arith}
+use lib.ListN.{length, set}
 use Rattle.record.specs.Record.{Rec}
-use Rattle.log.specs.Key.{Key, _≺_}
-use Rattle.log.specs.Map.{lookup, alter, mapO}
+use Rattle.log.specs.Key.{Key}
+use Rattle.log.specs.Map.{lookup}
 use Rattle.log.specs.Log.{Placed, placed, pageOf, oldest, run, pages}
-use Rattle.log.specs.Ring.{Chip, sealed, spare, Later, Ring, next, table}
-use Rattle.log.specs.Call.{Page, Block}
+use Rattle.log.specs.Ring.{Chip, spare, Ring, table}
+use Rattle.log.specs.Call.{Block}
 use Rattle.log.proofs.Clean.{run-sorted}
 use Rattle.log.proofs.Place.{keyAt}
-use Rattle.log.proofs.Index.{pages-insert, pages-replace, pages-remove}
-use Rattle.log.proofs.Steps.{Written, block-table}
-use Rattle.log.proofs.Turn.{turned-pages}
-use Rattle.log.proofs.Opening.{Opening, grown, opening-turned}
-use Rattle.log.proofs.Append.{place, place-page, put-table, table-sorted}
+use Rattle.log.proofs.Index.{pages-replace}
+use Rattle.log.proofs.Steps.{Written, block-run, table-at}
+use Rattle.log.proofs.Opening.{Opening, fresh, grown}
 
 module _ (B : ℕ) (big : 4 ≤ B) (h : ℕ) where
-  -- ---- AN APPEND
-  module _ (c c′ : Chip) (r : Ring B c h) (l : next c h < 15) (x : Rec) (w : Written B (place B big c h) x c c′) (d : Key × Placed) (i : ℕ) where
-    after : (o : Option (List ℕ)) → x .what ≡ o → pages B (table B c′) ≡ pages B (alter (x .key) (mapO (placed (place B big c h)) o) (table B c))
-    after o e =
-        ap (pages B) (put-table B big c c′ h r l x w)
-        ∙ ap (λ (y : Option (List ℕ)). pages B (alter (x .key) (mapO (placed (place B big c h)) y) (table B c))) e
+  -- ---- AN OPENING BEGINS: the run is the table, whether the spare was erased or, in the first round, left as it was
+  pub erased-keeps : (c c′ : Chip) → Ring B c h → Block (spare B h) c c′ → pages B (run B (c′ .recs) (h + B) (fresh B h)) ≡ pages B (table B c)
+  erased-keeps c c′ r w = ap (pages B) (block-run B big c c′ h r w (fresh B h) (omega arith) ∙ sym (table-at B big c h r))
 
-    here : pageOf B (place B big c h) ≡ 16 * h + next c h
-    here = place-page B big c c′ h r l
-
-    -- of a value whose key is new, and has i keys before it: its page is put in at i
-    pub append-inserts : (v : List ℕ) → x .what ≡ some v → i ≤ length (table B c) → ((j : ℕ) → j < i → keyAt d (table B c) j ≺ x .key)
-        → ((j : ℕ) → i ≤ j → j < length (table B c) → x .key ≺ keyAt d (table B c) j)
-        → pages B (table B c′) ≡ take i (pages B (table B c)) ++ (16 * h + next c h) ∷ drop i (pages B (table B c))
-    append-inserts v e a f g =
-        after (some v) e ∙ pages-insert B d (x .key) (table B c) i (placed (place B big c h) v) a f g
-        ∙ ap (λ (p : ℕ). take i (pages B (table B c)) ++ p ∷ drop i (pages B (table B c))) here
-
-    -- of a value whose key stands at i: its page replaces the one there
-    pub append-replaces : (v : List ℕ) → x .what ≡ some v → i < length (table B c) → x .key ≡ keyAt d (table B c) i
-        → pages B (table B c′) ≡ set (pages B (table B c)) i (16 * h + next c h)
-    append-replaces v e a k =
-        after (some v) e ∙ pages-replace B d (x .key) (table B c) i (placed (place B big c h) v) (table-sorted B big c h r) a k
-        ∙ ap (set (pages B (table B c)) i) here
-
-    -- of a note: the page at i is taken out
-    pub append-removes : x .what ≡ none → i < length (table B c) → x .key ≡ keyAt d (table B c) i
-        → pages B (table B c′) ≡ take i (pages B (table B c)) ++ drop (suc i) (pages B (table B c))
-    append-removes e a k = after none e ∙ pages-remove B d (x .key) (table B c) i (table-sorted B big c h r) a k
-
-  -- ---- ANY CHANGE OF THE SPARE: an erase, whole or cut
-  pub spare-keeps : (c c′ : Chip) (r : Ring B c h) → Block (spare B h) c c′ → Later B c h → pages B (table B c′) ≡ pages B (table B c)
-  spare-keeps c c′ r w f = ap (pages B) (block-table B big c c′ h r w f)
+  pub first-keeps : (c : Chip) → Ring B c h → pages B (run B (c .recs) (h + B) (fresh B h)) ≡ pages B (table B c)
+  first-keeps c r = ap (pages B) (sym (table-at B big c h r))
 
   -- ---- A COPY of the value whose key stands at i: its page in the spare replaces the one there
   pub copy-replaces : (c₀ c c′ : Chip) (t s : ℕ) (r : Rec) (a : Placed) (low : oldest B (h + B) ≤ t) (l : t < oldest B (h + B) + 15) (at : c .recs (pageOf B t) ≡ some r)
@@ -63,8 +32,3 @@ module _ (B : ℕ) (big : 4 ≤ B) (h : ℕ) where
   copy-replaces c₀ c c′ t s r a low l at live stands o q w d i b k =
       ap (pages B) (grown B big h c₀ c c′ t s r r a low l at live stands o refl q w)
       ∙ pages-replace B d (r .key) (run B (c .recs) (h + B) s) i (placed s (a .1)) (run-sorted B (c .recs) (h + B) s) b k
-
-  -- ---- THE SEAL
-  pub seal-keeps : (c₀ c c′ : Chip) (s : ℕ) (o : Opening B h c₀ c (oldest B (h + B) + 15) s) (w : Page (16 * h + 15) c c′) (on : sealed c′ h ≡ true)
-      → pages B (table B c′) ≡ pages B (run B (c .recs) (h + B) s)
-  seal-keeps c₀ c c′ s o w on = turned-pages B h (run B (c .recs) (h + B) s) (table B c′) (opening-turned B big h c₀ c c′ s o w on)

@@ -18,8 +18,12 @@ pub mod Start
 pub mod Append
 pub mod Bytes
 pub mod Crash
+pub mod Walk
 pub mod CallLaws
 pub mod CallCost
+pub mod Numbered
+pub mod Even
+pub mod WearCall
 pub mod AnswerLaws
 pub mod IndexSteps
 mod Examples

@@ -1,47 +1,23 @@
--- What the loops of start need: the head, block by block, and the run, place by place. And a blank chip.
+-- What the replay of start needs: the run, place by place. And a blank chip.
 -- Assumes nothing.
-use mathlib.Core.Path.{_≡_, refl, ap, _∙_}
+use mathlib.Core.Path.{_≡_, ap, _∙_}
 use mathlib.Core.Logic.{inl}
 use mathlib.Core.List.{List, [], _++_, append-nil}
 use mathlib.Core.Option.{Option, none, some}
-use mathlib.Core.Bool.{Bool, true, false, cond, _&&_}
+use mathlib.Core.Bool.{false}
 use Prim.Native.Nat.{ℕ, suc, _+_, _-_, _*_, _≤_, _<_}
 use native.Mathlib.Nat.{not-suc-le-zero}
 use native.Mathlib.Omega.{arith}
 use Rattle.record.specs.Record.{Rec}
 use Rattle.log.specs.Map.{alter, mapO}
 use Rattle.log.specs.Log.{Entry, replay, Recs, Placed, placed, pageOf, entry, logFrom, oldest, run, bytes}
-use Rattle.log.specs.Ring.{Chip, sealed, headFrom, Ring, table, mapOf}
+use Rattle.log.specs.Ring.{Chip, Ring, table, mapOf}
 use Rattle.log.proofs.Window.{page-lt}
 use Rattle.log.proofs.ReplayLaws.{replay-append}
 use Rattle.log.proofs.LogLaws.{logFrom-add, logFrom-empty}
 use Rattle.log.proofs.Steps.{table-at}
 
--- ---- the first pass: the head, by `head-none` and `head-found` of RingLaws, or with a loop that stops at the first
-
-module _ (c : Chip) where
-  -- block x is sealed and the next isn't: it is the head
-  pub head-here : (x n : ℕ) → sealed c x ≡ true → sealed c (suc x) ≡ false → headFrom c x (suc n) ≡ suc x
-  unfolding headFrom
-  head-here x n a b = rw (a, b)
-
-  -- the next is sealed: go on
-  pub head-on : (x n : ℕ) → sealed c (suc x) ≡ true → headFrom c x (suc n) ≡ headFrom c (suc x) n
-  unfolding headFrom
-  head-on x n a = rw a (go (sealed c x))
-    where
-      go : (b : Bool) → cond (b && false) (suc x) (headFrom c (suc x) n) ≡ headFrom c (suc x) n
-      go true = refl
-      go false = refl
-
-  -- block x isn't sealed: go on
-  pub head-off : (x n : ℕ) → sealed c x ≡ false → headFrom c x (suc n) ≡ headFrom c (suc x) n
-  unfolding headFrom
-  head-off x n a = rw a
-
 module _ (B : ℕ) (recs : Recs) where
-  -- ---- the second pass: the run
-
   module _ (e : ℕ) where
     -- no place: the empty map
     pub run-empty : run B recs e (oldest B e) ≡ []

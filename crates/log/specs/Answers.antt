@@ -1,6 +1,6 @@
 -- THE ANSWERS of the calls (document 01, section 3), as functions of the map and the arguments: refused with a number, or done. The tests stand in the document's
 -- order, and the first that applies is answered. Nothing here mentions code. Assumes nothing.
-use mathlib.Core.List.{List, _++_}
+use mathlib.Core.List.{List, [], _++_}
 use mathlib.Core.Option.{Option, none, some}
 use mathlib.Core.Bool.{Bool, true, false, not, _&&_, _||_}
 use Prim.Native.Nat.{ℕ, suc, _+_, _*_, _/_, _%_}
@@ -78,3 +78,7 @@ startAnswer l c =
     sized l
     (refuse 7 (l .dark)
     (refuse 8 (not (ringTest (blocks l) c (head (blocks l) c) && leb (length (mapOf (blocks l) c)) (room (blocks l)))) (done (mapOf (blocks l) c))))
+
+-- FORMAT: the empty map
+abbrev pub formatAnswer : Lent → Answer (Map (List ℕ))
+formatAnswer l = sized l (refuse 7 (l .dark) (done []))

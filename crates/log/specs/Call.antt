@@ -2,10 +2,11 @@
 -- Nothing here mentions code. Assumes nothing.
 use mathlib.Core.Path.{_≡_}
 use mathlib.Core.Logic.{_≢_, _⊎_}
-use mathlib.Core.List.{List, [], _∷_}
+use mathlib.Core.List.{List, [], _∷_, _++_}
 use mathlib.Core.Option.{Option, none, some}
 use mathlib.Core.Bool.{Bool, true, false}
 use Prim.Native.Nat.{ℕ, suc, _+_, _*_, _/_, _%_, _<_}
+use Rattle.chip.specs.Play.{Op, erase, write}
 use Rattle.record.specs.Record.{Rec}
 use Rattle.log.specs.Map.{Map, lookup}
 use Rattle.log.specs.Log.{Placed, pageOf, oldest, run}
@@ -40,11 +41,6 @@ pub record CutWrote (p : ℕ) (o : Option Rec) (c c′ : Chip) : Type 0 where
 
 -- ---- A CALL
 
--- an erase of a block; a write of a page with one that says this
-pub data Op : Type 0 where
-  erase : ℕ → Op
-  write : ℕ → Option Rec → Op
-
 -- between two openings, with the head h; or in the middle of one: it began on the chip c₀, place t of the oldest block is looked at next, place s of the
 -- spare written next
 pub data State : Type 0 where
@@ -62,10 +58,10 @@ pub data Trace (B : ℕ) (x : Rec) : State → Chip → List Op → Bool → Typ
   -- the power goes between two operations
   stop : (st : State) → Trace B x st (chipAt st) [] false
   -- the head has room: x is appended
-  append : (c c′ : Chip) (h : ℕ) → next c h < 15 → Wrote (16 * h + next c h) (some x) c c′
-      → Trace B x (resting c h) c′ (write (16 * h + next c h) (some x) ∷ []) true
-  append-cut : (c c′ : Chip) (h : ℕ) → next c h < 15 → CutWrote (16 * h + next c h) (some x) c c′
-      → Trace B x (resting c h) c′ (write (16 * h + next c h) (some x) ∷ []) false
+  append : (c c′ : Chip) (h : ℕ) (new : List ℕ) → next c h < 15 → Wrote (16 * h + next c h) (some x) c c′
+      → Trace B x (resting c h) c′ (write (16 * h + next c h) new ∷ []) true
+  append-cut : (c c′ : Chip) (h : ℕ) (new : List ℕ) → next c h < 15 → CutWrote (16 * h + next c h) (some x) c c′
+      → Trace B x (resting c h) c′ (write (16 * h + next c h) new ∷ []) false
   -- the head is full: the next block is opened. The spare is erased if the oldest block is sealed; in the first round it is blank, and is not
   erasing : (c d c′ : Chip) (h : ℕ) (l : List Op) (b : Bool) → next c h ≡ 15
       → sealed c ((h + 2) % B) ≡ true
@@ -78,44 +74,27 @@ pub data Trace (B : ℕ) (x : Rec) : State → Chip → List Op → Bool → Typ
   skip : (h : ℕ) (c₀ c c′ : Chip) (t s : ℕ) (l : List Op) (b : Bool) → t < oldest B (h + B) + 15
       → ((r : Rec) (a : Placed) → c .recs (pageOf B t) ≡ some r → lookup (r .key) (run B (c .recs) (h + B) s) ≡ some a → a .0 ≢ t)
       → Trace B x (copying h c₀ c (suc t) s) c′ l b → Trace B x (copying h c₀ c t s) c′ l b
-  copy : (h : ℕ) (c₀ c d c′ : Chip) (t s : ℕ) (l : List Op) (b : Bool) (r : Rec) (a : Placed) → t < oldest B (h + B) + 15 → c .recs (pageOf B t) ≡ some r
+  copy : (h : ℕ) (c₀ c d c′ : Chip) (t s : ℕ) (new : List ℕ) (l : List Op) (b : Bool) (r : Rec) (a : Placed) → t < oldest B (h + B) + 15 → c .recs (pageOf B t) ≡ some r
       → lookup (r .key) (run B (c .recs) (h + B) s) ≡ some a → a .0 ≡ t → Wrote (pageOf B s) (some r) c d
-      → Trace B x (copying h c₀ d (suc t) (suc s)) c′ l b → Trace B x (copying h c₀ c t s) c′ (write (pageOf B s) (some r) ∷ l) b
-  copy-cut : (h : ℕ) (c₀ c c′ : Chip) (t s : ℕ) (r : Rec) (a : Placed) → t < oldest B (h + B) + 15 → c .recs (pageOf B t) ≡ some r
+      → Trace B x (copying h c₀ d (suc t) (suc s)) c′ l b → Trace B x (copying h c₀ c t s) c′ (write (pageOf B s) new ∷ l) b
+  copy-cut : (h : ℕ) (c₀ c c′ : Chip) (t s : ℕ) (new : List ℕ) (r : Rec) (a : Placed) → t < oldest B (h + B) + 15 → c .recs (pageOf B t) ≡ some r
       → lookup (r .key) (run B (c .recs) (h + B) s) ≡ some a → a .0 ≡ t → CutWrote (pageOf B s) (some r) c c′
-      → Trace B x (copying h c₀ c t s) c′ (write (pageOf B s) (some r) ∷ []) false
+      → Trace B x (copying h c₀ c t s) c′ (write (pageOf B s) new ∷ []) false
   -- all its places are done: the head is sealed, and the spare is the head
-  seal : (h : ℕ) (c₀ c d c′ : Chip) (s : ℕ) (l : List Op) (b : Bool) → Wrote (16 * h + 15) none c d → Trace B x (resting d (spare B h)) c′ l b
-      → Trace B x (copying h c₀ c (oldest B (h + B) + 15) s) c′ (write (16 * h + 15) none ∷ l) b
-  seal-cut : (h : ℕ) (c₀ c c′ : Chip) (s : ℕ) → CutWrote (16 * h + 15) none c c′
-      → Trace B x (copying h c₀ c (oldest B (h + B) + 15) s) c′ (write (16 * h + 15) none ∷ []) false
+  seal : (h : ℕ) (c₀ c d c′ : Chip) (s : ℕ) (new : List ℕ) (l : List Op) (b : Bool) → Wrote (16 * h + 15) none c d → Trace B x (resting d (spare B h)) c′ l b
+      → Trace B x (copying h c₀ c (oldest B (h + B) + 15) s) c′ (write (16 * h + 15) new ∷ l) b
+  seal-cut : (h : ℕ) (c₀ c c′ : Chip) (s : ℕ) (new : List ℕ) → CutWrote (16 * h + 15) none c c′
+      → Trace B x (copying h c₀ c (oldest B (h + B) + 15) s) c′ (write (16 * h + 15) new ∷ []) false
+
+-- THE OPERATIONS l LEAD from one state to another: whatever a call does from there on, it does from here on after them
+pub record Leads (B : ℕ) (st st′ : State) (l : List Op) : Type 0 where
+  pub then : (x : Rec) (c′ : Chip) (m : List Op) (b : Bool) → Trace B x st′ c′ m b → Trace B x st c′ (l ++ m) b
+
+-- after the operations l the power went, and left the chip c′, whatever record the call was to write
+pub record Cut (B : ℕ) (st : State) (c′ : Chip) (l : List Op) : Type 0 where
+  pub short : (x : Rec) → Trace B x st c′ l false
 
 -- the map that a call may leave: where it came to its end that of after, where it did not that of before or that of after
 abbrev pub After : Bool → Map (List ℕ) → Map (List ℕ) → Map (List ℕ) → Type 0
 After true before after m = m ≡ after
 After false before after m = (m ≡ before) ⊎ (m ≡ after)
-
--- how many of the operations are erases, and writes
-abbrev pub erases : List Op → ℕ
-erases [] = 0
-erases (erase b ∷ l) = suc (erases l)
-erases (write p o ∷ l) = erases l
-
-abbrev pub writes : List Op → ℕ
-writes [] = 0
-writes (erase b ∷ l) = writes l
-writes (write p o ∷ l) = suc (writes l)
-
--- how many blocks it opened: a seal for each
-abbrev pub opened : {B : ℕ} {x : Rec} {st : State} {c′ : Chip} {l : List Op} {b : Bool} → Trace B x st c′ l b → ℕ
-opened (stop st) = 0
-opened (append c c′ h n w) = 0
-opened (append-cut c c′ h n w) = 0
-opened (erasing c d c′ h l b n t w k) = opened k
-opened (erase-cut c c′ h n t w) = 0
-opened (first c c′ h l b n t k) = opened k
-opened (skip h c₀ c c′ t s l b i dead k) = opened k
-opened (copy h c₀ c d c′ t s l b r a i at live stands w k) = opened k
-opened (copy-cut h c₀ c c′ t s r a i at live stands w) = 0
-opened (seal h c₀ c d c′ s l b w k) = suc (opened k)
-opened (seal-cut h c₀ c c′ s w) = 0

@@ -1,14 +1,12 @@
 -- Ages and the potential, by which openings are paid for (document 03, section 3). Nothing here mentions code. Assumes nothing.
-use mathlib.Core.Path.{_≡_}
-use mathlib.Core.Bool.{Bool, false}
-use mathlib.Core.List.{List}
-use Prim.Native.Nat.{ℕ, suc, _+_, _-_, _*_, _/_, _≤_, _<_}
-use lib.ListN.{length}
-use Rattle.record.specs.Record.{Rec}
+use mathlib.Core.Bool.{Bool, true, false, cond}
+use mathlib.Core.List.{List, [], _∷_}
+use Prim.Native.Nat.{ℕ, _+_, _-_, _*_, _/_}
+use lib.Dec.{eqb}
+use Rattle.chip.specs.Play.{Op, erase, write}
 use Rattle.log.specs.Map.{Map, total}
 use Rattle.log.specs.Log.{Placed}
-use Rattle.log.specs.Ring.{Chip, head, Ring, next, table, room}
-use Rattle.log.specs.Call.{Op, resting, Trace, opened}
+use Rattle.log.specs.Ring.{Chip, head, next, table}
 
 -- how old a value is, where the head is block number e: 1 in the head's own block, B - 1 in the oldest
 abbrev pub age : ℕ → Placed → ℕ
@@ -26,8 +24,21 @@ phi b used sum = (b + 1) * used + sum
 unfoldable pub potential : ℕ → Chip → ℕ
 potential B c = phi (B - 2) (next c (head B c)) (ages (head B c + B) (table B c))
 
--- n calls, one after the other from a blank chip, each whole or cut short, that opened r blocks in all; before each the chip is a ring with room
-pub data Calls (B : ℕ) : Chip → ℕ → ℕ → Type 0 where
-  begin : (c : Chip) → ((p : ℕ) → p < 16 * B → c .full p ≡ false) → Calls B c 0 0
-  call : (x : Rec) (c c′ : Chip) (l : List Op) (b : Bool) (h n r : ℕ) → Ring B c h → length (table B c) ≤ room B → (k : Trace B x (resting c h) c′ l b)
-      → Calls B c n r → Calls B c′ (suc n) (r + opened k)
+-- ---- THE ERASES THAT WERE BEGUN, each weighted by its block
+abbrev pub weights : (ℕ → ℕ) → List Op → ℕ
+weights g [] = 0
+weights g (erase b ∷ l) = g b + weights g l
+weights g (write p new ∷ l) = weights g l
+
+-- 1 for block x, 0 for another
+abbrev pub only : ℕ → ℕ → ℕ
+only x b = cond (eqb b x) 1 0
+
+-- how often an erase of block x was begun
+abbrev pub erasesOf : ℕ → List Op → ℕ
+erasesOf x l = weights (only x) l
+
+-- 1 for a call that was cut short
+abbrev pub missed : Bool → ℕ
+missed true = 0
+missed false = 1

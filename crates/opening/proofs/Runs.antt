@@ -1,5 +1,5 @@
 -- What a copy and a seal did to the chip. Assumes nothing.
-use mathlib.Core.Path.{_≡_, sym, ap, _∙_}
+use mathlib.Core.Path.{_≡_, sym, _∙_}
 use mathlib.Core.Bool.{true}
 use mathlib.Core.List.{List}
 use Prim.Native.Nat.{ℕ, _+_, _-_, _*_, _≤_, _<_}
@@ -8,10 +8,9 @@ use lib.ListN.{length, set, drop}
 use lib.Seq.{getD-take, getD-drop}
 use Rattle.page.specs.Page.{byte, Bytes}
 use Rattle.page.proofs.Grow.{grown, grown-more, grown-all}
-use Rattle.chip.specs.Chip.{power, pageAt, blankAt, written}
-use Rattle.chip.specs.Play.{Writable, Did}
+use Rattle.chip.specs.Chip.{pageAt, blankAt, written}
+use Rattle.chip.specs.Play.{Writable}
 use Rattle.chip.proofs.Pages.{length-page, bytes-page}
-use Rattle.chip.proofs.Plays.{did-write, did-more, did-then}
 use Rattle.record.specs.Record.{sealPage}
 use Rattle.opening.specs.Ends.{Sane}
 use Rattle.record.proofs.Trip.{seal-length, seal-bytes}
@@ -21,16 +20,9 @@ module _ (noise c c′ : List ℕ) (f f′ p : ℕ) (h : 256 * p + 256 ≤ lengt
   pub copy-writable : (q : ℕ) → 256 * q + 256 ≤ length c → Bytes c → Writable p (pageAt c q) c
   copy-writable q i s = record { inside = h; blank = b; size = length-page c q i; bytes = bytes-page c q s }
 
-  pub did-copy : (q : ℕ) (new : List ℕ) → 256 * q + 256 ≤ length c → Bytes c → new ≡ pageAt c q → c′ ≡ written (power f) noise p new c → Did 0 1 noise c f c′ f′
-  did-copy q new i s n e =
-      did-write p (pageAt c q) c c′ f f′ (copy-writable q i s) (e ∙ ap (λ (l : List ℕ). written (power f) noise p l c) n) g
-
   -- the same of a seal
   pub seal-writable : Writable p sealPage c
   seal-writable = record { inside = h; blank = b; size = seal-length; bytes = seal-bytes }
-
-  pub did-seal : (new : List ℕ) → new ≡ sealPage → c′ ≡ written (power f) noise p new c → Did 0 1 noise c f c′ f′
-  did-seal new n e = did-write p sealPage c c′ f f′ seal-writable (e ∙ ap (λ (l : List ℕ). written (power f) noise p l c) n) g
 
 -- the loop of `copy_of`: a turn, and its end
 module _ (c page₀ page : List ℕ) (q i : ℕ) (h : 256 * q + 256 ≤ length c) (z : length page₀ ≡ 256) (e : page ≡ grown i (pageAt c q) page₀) where
@@ -53,8 +45,3 @@ sane-moved B n h k c ix c′ ix′ noise s e d l =
       loud = s .loud;
       inside = l;
     }
-
--- an opening more: what is left of the bound on them
-pub did-opening : (b l : ℕ) (noise c d e : List ℕ) (f g k : ℕ) → 0 < l → l ≤ b → Did (b - l) (16 * (b - l)) noise c f d g → Did 1 16 noise d g e k
-    → Did (b - (l - 1)) (16 * (b - (l - 1))) noise c f e k
-did-opening b l noise c d e f g k p q x y = did-more (omega arith) (omega arith) (did-then x y)

@@ -6,8 +6,11 @@ ghost use Prim.Native.Nat.{_+_, _-_, _*_, _%_, _≤_, _<_};
 ghost use mathlib.Core.Path.{_≡_};
 ghost use lib.ListN.{length};
 ghost use Rattle.chip.specs.Chip.{pageAt};
-ghost use Rattle.chip.specs.Play.{Did};
+ghost use Rattle.record.specs.Record.{recAt};
+ghost use Rattle.record.specs.Kinds.{kindOf};
+ghost use Rattle.record.specs.declared.Kind.the-variants.{Value};
 ghost use Rattle.opening.specs.Ends.{Sane, LiveWithin, Few, RoomWithin};
+ghost use Rattle.opening.specs.Steps.{Judges, Carries, Turns, Clears, Seals, Fills, Opens, Rooms};
 
 // How many places of a block take records; the page after them is its seal.
 pub const PLACES: usize = 15;
@@ -18,13 +21,6 @@ pub fn block_after(h: usize, k: usize, b: usize) -> usize
     ensures { λ r. ⌜ (r ≡ (h + k) % b) × (r < b) ⌝ }
 {
     (h + k) % b
-}
-
-// A page number of the index.
-fn page_number(x: u32) -> usize
-    ensures { λ r. ⌜ r ≡ x ⌝ }
-{
-    x as usize
 }
 
 // The bytes of page q.
@@ -51,6 +47,7 @@ pub enum Live {
 fn is_live(chip: &[u8], index: &[u32], n: usize, q: usize) -> Live
     requires { ⌜ (256 * q + 256 ≤ length (now chip)) × (n ≤ length (now index)) ⌝ }
     ensures within { λ r. ⌜ LiveWithin n r ⌝ }
+    ensures right { λ r. ⌜ Judges (now (chip .entry)) (now (index .entry)) n q r ⌝ }
 {
     match record::kind_at(chip, q) {
         Kind::Value => entry_of(chip, index, n, q),
@@ -59,13 +56,16 @@ fn is_live(chip: &[u8], index: &[u32], n: usize, q: usize) -> Live
     }
 }
 
+// The same of a page that holds a value.
 fn entry_of(chip: &[u8], index: &[u32], n: usize, q: usize) -> Live
     requires { ⌜ (256 * q + 256 ≤ length (now chip)) × (n ≤ length (now index)) ⌝ }
+    requires { ⌜ kindOf (recAt (now chip) q) ≡ Value ⌝ }
     ensures within { λ r. ⌜ LiveWithin n r ⌝ }
+    ensures right { λ r. ⌜ Judges (now (chip .entry)) (now (index .entry)) n q r ⌝ }
 {
     match index::find(chip, index, n, record::key_at(chip, q)) {
         Found::At(j) => {
-            if page_number(index[j]) == q {
+            if index::word(index[j]) == q {
                 return Live::Yes(j);
             }
             Live::No
@@ -96,7 +96,7 @@ fn carry(
 ) -> Turn
     requires { ⌜ Sane b (now chip) (now index) (now noise) n h ⌝ }
     requires { ⌜ (256 * q + 256 ≤ length (now chip)) × (j < n) ⌝ }
-    ensures did { λ r. ⌜ Did 0 1 (now (noise .entry)) (now (chip .entry)) (now (fuse .entry)) (now (chip .exit)) (now (fuse .exit)) ⌝ }
+    ensures right { λ r. ⌜ Carries b n h k q j (now (noise .entry)) (now (chip .entry)) (now (fuse .entry)) (now (index .entry)) (now (chip .exit)) (now (fuse .exit)) (now (index .exit)) r ⌝ }
     ensures few { λ r. ⌜ Few r ⌝ }
 {
     if PLACES <= k {
@@ -129,7 +129,7 @@ fn look_at(
 ) -> Turn
     requires { ⌜ Sane b (now chip) (now index) (now noise) n h ⌝ }
     requires { ⌜ (i < 15) × (k ≤ 15) ⌝ }
-    ensures did { λ r. ⌜ Did 0 1 (now (noise .entry)) (now (chip .entry)) (now (fuse .entry)) (now (chip .exit)) (now (fuse .exit)) ⌝ }
+    ensures right { λ r. ⌜ Turns b n h i 1 k (now (noise .entry)) (now (chip .entry)) (now (fuse .entry)) (now (index .entry)) (now (chip .exit)) (now (fuse .exit)) (now (index .exit)) r ⌝ }
     ensures few { λ r. ⌜ Few r ⌝ }
 {
     let q = 16 * block_after(h, 2, b) + i;
@@ -150,7 +150,7 @@ fn clean(
     noise: &[u8],
 ) -> Turn
     requires { ⌜ Sane b (now chip) (now index) (now noise) n h ⌝ }
-    ensures did { λ r. ⌜ Did 0 15 (now (noise .entry)) (now (chip .entry)) (now (fuse .entry)) (now (chip .exit)) (now (fuse .exit)) ⌝ }
+    ensures right { λ r. ⌜ Turns b n h 0 15 0 (now (noise .entry)) (now (chip .entry)) (now (fuse .entry)) (now (index .entry)) (now (chip .exit)) (now (fuse .exit)) (now (index .exit)) r ⌝ }
     ensures few { λ r. ⌜ Few r ⌝ }
 {
     let mut k = 0;
@@ -172,45 +172,60 @@ fn clean(
     Turn::On(k)
 }
 
-// How an operation on the chip went.
-pub enum Step {
-    Lit,
-    Unlit,
-    Unfit,
-}
-
-// The spare is erased, if the oldest block is sealed: in the first round it is blank, and a cut erase could leave it looking sealed.
-fn clear_spare(chip: &mut [u8], b: usize, h: usize, fuse: &mut u64, noise: &[u8]) -> Step
+// The spare is erased, if the oldest block is sealed: in the first round it is blank, and a cut erase could leave it looking sealed. Answers whether the power stayed.
+fn clear_spare(chip: &mut [u8], b: usize, h: usize, fuse: &mut u64, noise: &[u8]) -> bool
     requires { ⌜ (4 ≤ b) × (b ≤ 2048) × (length (now chip) ≡ 4096 * b) × (h < b) × (length (now noise) ≡ 4096) ⌝ }
-    ensures did { λ r. ⌜ Did 1 0 (now (noise .entry)) (now (chip .entry)) (now (fuse .entry)) (now (chip .exit)) (now (fuse .exit)) ⌝ }
+    ensures { λ r. ⌜ Clears b h (now (noise .entry)) (now (chip .entry)) (now (fuse .entry)) (now (chip .exit)) (now (fuse .exit)) r ⌝ }
 {
     let oldest = block_after(h, 2, b);
     if chip::blank_at(chip, 16 * oldest + PLACES) {
-        return Step::Lit;
+        return true;
     }
     let spare = block_after(h, 1, b);
     chip::erase(chip, spare, fuse, noise);
     if *fuse == 0 {
-        return Step::Unlit;
+        return false;
     }
-    Step::Lit
+    true
 }
 
-// The head is sealed.
-fn seal_head(chip: &mut [u8], b: usize, h: usize, fuse: &mut u64, noise: &[u8]) -> Step
-    requires { ⌜ (4 ≤ b) × (b ≤ 2048) × (length (now chip) ≡ 4096 * b) × (h < b) × (length (now noise) ≡ 4096) ⌝ }
-    ensures did { λ r. ⌜ Did 0 1 (now (noise .entry)) (now (chip .entry)) (now (fuse .entry)) (now (chip .exit)) (now (fuse .exit)) ⌝ }
+// The head is sealed, and the spare, k of whose places are used, is the head.
+fn seal_head(chip: &mut [u8], b: usize, h: usize, k: usize, fuse: &mut u64, noise: &[u8]) -> Turn
+    requires { ⌜ (4 ≤ b) × (b ≤ 2048) × (length (now chip) ≡ 4096 * b) × (h < b) × (length (now noise) ≡ 4096) × (k ≤ 15) ⌝ }
+    ensures right { λ r. ⌜ Seals b h k (now (noise .entry)) (now (chip .entry)) (now (fuse .entry)) (now (chip .exit)) (now (fuse .exit)) r ⌝ }
+    ensures few { λ r. ⌜ Few r ⌝ }
 {
     let p = 16 * h + PLACES;
     if !chip::blank_at(chip, p) {
-        return Step::Unfit;
+        return Turn::Dirty;
     }
     let seal = record::seal();
     chip::write(chip, p, &seal, fuse, noise);
     if *fuse == 0 {
-        return Step::Unlit;
+        return Turn::Dark;
     }
-    Step::Lit
+    Turn::On(k)
+}
+
+// The live values of the oldest block go to the spare, and the head is sealed.
+fn fill_spare(
+    chip: &mut [u8],
+    index: &mut [u32],
+    n: usize,
+    b: usize,
+    h: usize,
+    fuse: &mut u64,
+    noise: &[u8],
+) -> Turn
+    requires { ⌜ Sane b (now chip) (now index) (now noise) n h ⌝ }
+    ensures right { λ r. ⌜ Fills b n h (now (noise .entry)) (now (chip .entry)) (now (fuse .entry)) (now (index .entry)) (now (chip .exit)) (now (fuse .exit)) (now (index .exit)) r ⌝ }
+    ensures few { λ r. ⌜ Few r ⌝ }
+{
+    match clean(chip, index, n, b, h, fuse, noise) {
+        Turn::On(k) => seal_head(chip, b, h, k, fuse, noise),
+        Turn::Dark => Turn::Dark,
+        Turn::Dirty => Turn::Dirty,
+    }
 }
 
 // The next block is opened, where the head is full. Answers how many of its places are used.
@@ -224,46 +239,13 @@ pub fn open_next(
     noise: &[u8],
 ) -> Turn
     requires { ⌜ Sane b (now chip) (now index) (now noise) n h ⌝ }
-    ensures did { λ r. ⌜ Did 1 16 (now (noise .entry)) (now (chip .entry)) (now (fuse .entry)) (now (chip .exit)) (now (fuse .exit)) ⌝ }
+    ensures right { λ r. ⌜ Opens b n h (now (noise .entry)) (now (chip .entry)) (now (fuse .entry)) (now (index .entry)) (now (chip .exit)) (now (fuse .exit)) (now (index .exit)) r ⌝ }
     ensures few { λ r. ⌜ Few r ⌝ }
 {
-    match clear_spare(chip, b, h, fuse, noise) {
-        Step::Lit => fill_spare(chip, index, n, b, h, fuse, noise),
-        Step::Unlit => Turn::Dark,
-        Step::Unfit => Turn::Dirty,
+    if clear_spare(chip, b, h, fuse, noise) {
+        return fill_spare(chip, index, n, b, h, fuse, noise);
     }
-}
-
-fn fill_spare(
-    chip: &mut [u8],
-    index: &mut [u32],
-    n: usize,
-    b: usize,
-    h: usize,
-    fuse: &mut u64,
-    noise: &[u8],
-) -> Turn
-    requires { ⌜ Sane b (now chip) (now index) (now noise) n h ⌝ }
-    ensures did { λ r. ⌜ Did 0 16 (now (noise .entry)) (now (chip .entry)) (now (fuse .entry)) (now (chip .exit)) (now (fuse .exit)) ⌝ }
-    ensures few { λ r. ⌜ Few r ⌝ }
-{
-    match clean(chip, index, n, b, h, fuse, noise) {
-        Turn::On(k) => finish_block(chip, b, h, k, fuse, noise),
-        Turn::Dark => Turn::Dark,
-        Turn::Dirty => Turn::Dirty,
-    }
-}
-
-fn finish_block(chip: &mut [u8], b: usize, h: usize, k: usize, fuse: &mut u64, noise: &[u8]) -> Turn
-    requires { ⌜ (4 ≤ b) × (b ≤ 2048) × (length (now chip) ≡ 4096 * b) × (h < b) × (length (now noise) ≡ 4096) × (k ≤ 15) ⌝ }
-    ensures did { λ r. ⌜ Did 0 1 (now (noise .entry)) (now (chip .entry)) (now (fuse .entry)) (now (chip .exit)) (now (fuse .exit)) ⌝ }
-    ensures few { λ r. ⌜ Few r ⌝ }
-{
-    match seal_head(chip, b, h, fuse, noise) {
-        Step::Lit => Turn::On(k),
-        Step::Unlit => Turn::Dark,
-        Step::Unfit => Turn::Dirty,
-    }
+    Turn::Dark
 }
 
 // Where the next record goes: the head, and the place of its block; or the power went; or a page was not blank.
@@ -286,7 +268,7 @@ pub fn make_room(
 ) -> Room
     requires { ⌜ Sane b (now chip) (now index) (now noise) n h0 ⌝ }
     requires { ⌜ next0 ≤ 15 ⌝ }
-    ensures did { λ r. ⌜ Did (b - 2) (16 * (b - 2)) (now (noise .entry)) (now (chip .entry)) (now (fuse .entry)) (now (chip .exit)) (now (fuse .exit)) ⌝ }
+    ensures right { λ r. ⌜ Rooms b n h0 next0 (now (noise .entry)) (now (chip .entry)) (now (fuse .entry)) (now (index .entry)) (now (chip .exit)) (now (fuse .exit)) (now (index .exit)) r ⌝ }
     ensures within { λ r. ⌜ RoomWithin b r ⌝ }
 {
     let mut h = h0;

@@ -1,3 +1,11 @@
 pub mod Bridge
 pub mod Scan
 pub mod Runs
+pub mod Numbers
+pub mod Rows
+pub mod Gets
+pub mod Area
+pub mod Starts
+pub mod Formats
+pub mod Appends
+pub mod Puts

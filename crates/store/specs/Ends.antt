@@ -4,7 +4,6 @@ use mathlib.Core.Logic.{_≢_}
 use mathlib.Core.List.{List}
 use Prim.Native.Nat.{ℕ, _+_, _*_, _/_, _≤_, _<_}
 use lib.ListN.{length, drop, getD}
-use Rattle.chip.specs.Play.{Did}
 use Rattle.log.specs.Ring.{room}
 use Rattle.store.specs.declared.Answer.{Answer}
 use Rattle.store.specs.declared.Answer.the-variants.{Done, Refused}
@@ -68,11 +67,6 @@ abbrev pub RefusedKept : List ℕ → List ℕ → List ℕ → List ℕ → Ans
 RefusedKept c w c′ w′ (Done n) = Unit {0}
 RefusedKept c w c′ w′ (Refused k) = k ≢ 7 → k ≢ 8 → (c′ ≡ c) × (w′ ≡ w)
 
--- how put and delete end: at most B erases and 16 B writes, each of a page that was blank
-pub record Ended (noise c : List ℕ) (f : ℕ) (w c′ : List ℕ) (f′ : ℕ) (w′ : List ℕ) (r : Answer) : Type 0 where
-  pub did : Did (blocksOf c) (16 * blocksOf c) noise c f c′ f′
-  pub refused : RefusedKept c w c′ w′ r
-
 -- how get ends: past the value, and whole where it is refused, the buffer is as it was
 abbrev pub GotBy : List ℕ → List ℕ → Answer → Type 0
 GotBy b b′ (Done n) = (n ≤ length b) × (drop n b′ ≡ drop n b)
@@ -80,28 +74,3 @@ GotBy b b′ (Refused k) = b′ ≡ b
 
 pub record Got (b b′ : List ℕ) (r : Answer) : Type 0 where
   pub ends : GotBy b b′ r
-
--- how start ends: refused with 5 or 7 it leaves the work area as it was; else it is marked not ready, or ready
-abbrev pub StartedBy : List ℕ → List ℕ → Answer → Type 0
-StartedBy w w′ (Done n) = getD w′ 0 0 ≡ 1
-StartedBy w w′ (Refused k) = (k ≢ 8 → w′ ≡ w) × (k ≡ 8 → getD w′ 0 0 ≡ 0)
-
-pub record Started (w w′ : List ℕ) (r : Answer) : Type 0 where
-  pub ends : StartedBy w w′ r
-
--- how the last step of start ends
-abbrev pub ReadyMadeBy : List ℕ → Answer → Type 0
-ReadyMadeBy w′ (Done n) = getD w′ 0 0 ≡ 1
-ReadyMadeBy w′ (Refused k) = (k ≡ 8) × (getD w′ 0 0 ≡ 0)
-
-pub record ReadyMade (w′ : List ℕ) (r : Answer) : Type 0 where
-  pub ends : ReadyMadeBy w′ r
-
--- how format ends: at most B erases and no write; refused with anything but 7 it leaves chip and work area as they were
-abbrev pub FormattedKept : List ℕ → List ℕ → List ℕ → List ℕ → Answer → Type 0
-FormattedKept c w c′ w′ (Done n) = getD w′ 0 0 ≡ 0
-FormattedKept c w c′ w′ (Refused k) = k ≢ 7 → (c′ ≡ c) × (w′ ≡ w)
-
-pub record Formatted (noise c : List ℕ) (f : ℕ) (w c′ : List ℕ) (f′ : ℕ) (w′ : List ℕ) (r : Answer) : Type 0 where
-  pub did : Did (blocksOf c) 0 noise c f c′ f′
-  pub refused : FormattedKept c w c′ w′ r

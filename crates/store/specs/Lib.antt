@@ -1,2 +1,5 @@
 pub mod Scan
 pub mod Ends
+pub mod Calls
+pub mod Reads
+pub mod Changes

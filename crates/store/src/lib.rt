@@ -8,15 +8,22 @@ use record::Kind;
 ghost use mathlib.Core.Path.{_≡_};
 ghost use Prim.Native.Nat.{_+_, _-_, _*_, _/_, _≤_, _<_};
 ghost use lib.ListN.{length, getD, set, take};
-ghost use mathlib.Core.Bool.{not};
+ghost use mathlib.Core.Bool.{true, false, not};
+ghost use mathlib.Core.List.{[]};
+ghost use mathlib.Core.Option.{some};
 ghost use Rattle.chip.specs.Chip.{blankAt};
 ghost use Rattle.chip.specs.Play.{Did};
+ghost use Rattle.record.specs.Record.{recordOf, valueAt};
 ghost use Rattle.log.specs.Log.{pages};
-ghost use Rattle.log.specs.Ring.{chipOf, head, laterTest, ringTest, tableAt, nextTo};
+ghost use Rattle.log.specs.Ring.{chipOf, head, laterTest, ringTest, tableAt, nextTo, room};
+ghost use Rattle.log.specs.Answers.{gotten};
 ghost use Rattle.index.specs.Answers.{Within};
 ghost use Rattle.opening.specs.Ends.{Sane};
 ghost use Rattle.store.specs.Scan.{sealedBelow, blankFrom, Replays};
-ghost use Rattle.store.specs.Ends.{blocksOf, Sized, Checked, Keyed, ChangeWithin, Undenied, ChangeKept, Ended, Got, Started, ReadyMade, Formatted};
+ghost use Rattle.store.specs.Ends.{blocksOf, Sized, Checked, Keyed, ChangeWithin, Undenied, ChangeKept, Got};
+ghost use Rattle.store.specs.Calls.{keyNumber, Tested, Gets, PutEnds, DeleteEnds, GetEnds, CountEnds, StartEnds, FormatEnds};
+ghost use Rattle.store.specs.Changes.{isMissing, denial, Appends, Alters, Runs};
+ghost use Rattle.store.specs.Reads.{sizesTest, Counted, Fetches, Readies, Clears};
 
 // How a call ended: it is done, with a number for those that answer one; or it was refused, with document 01's number.
 pub enum Answer {
@@ -28,7 +35,8 @@ pub enum Answer {
 
 // How many blocks a chip has whose lengths are allowed, and 0 for any other: refusal 5.
 fn blocks(chip: &[u8], work: &[u32]) -> usize
-    ensures { λ r. ⌜ (0 < r → (r ≡ blocksOf (now (chip .entry))) × Sized (now (chip .entry)) (now (work .entry))) ⌝ }
+    ensures sized { λ r. ⌜ (0 < r → (r ≡ blocksOf (now (chip .entry))) × Sized (now (chip .entry)) (now (work .entry))) ⌝ }
+    ensures none { λ r. ⌜ (r ≡ 0 → sizesTest (length (now (chip .entry))) (length (now (work .entry))) ≡ false) ⌝ }
 {
     let b = chip.len() / 4096;
     if chip.len() % 4096 != 0 {
@@ -46,16 +54,9 @@ fn blocks(chip: &[u8], work: &[u32]) -> usize
     b
 }
 
-// A word of the work area as a number.
-fn word(x: u32) -> usize
-    ensures { λ r. ⌜ r ≡ x ⌝ }
-{
-    x as usize
-}
-
 // The refusals 5, 7 and 8 of a call on a started store; 0 if none is due.
 fn unready(chip: &[u8], work: &[u32], fuse: u64) -> u32
-    ensures { λ r. ⌜ (r ≡ 0 → Checked (now (chip .entry)) (now (work .entry))) ⌝ }
+    ensures { λ r. ⌜ Tested (now (chip .entry)) fuse (now (work .entry)) 0 r ⌝ }
 {
     let b = blocks(chip, work);
     if b == 0 {
@@ -71,13 +72,13 @@ fn unready(chip: &[u8], work: &[u32], fuse: u64) -> u32
     if mark != 1 {
         return 8;
     }
-    if b <= word(work[1]) {
+    if b <= index::word(work[1]) {
         return 8;
     }
-    if opening::PLACES < word(work[2]) {
+    if opening::PLACES < index::word(work[2]) {
         return 8;
     }
-    if log::room(b) < word(work[3]) {
+    if log::room(b) < index::word(work[3]) {
         return 8;
     }
     0
@@ -110,7 +111,7 @@ fn append(
 ) -> Change
     requires { ⌜ (4 ≤ b) × (b ≤ 2048) × (length (now chip) ≡ 4096 * b) × (h < b) × (next < 15) × (length (now noise) ≡ 4096) ⌝ }
     requires { ⌜ (n < length (now index)) × Within n found × Keyed (now key) (now value) ⌝ }
-    ensures did { λ r. ⌜ Did 0 1 (now (noise .entry)) (now (chip .entry)) (now (fuse .entry)) (now (chip .exit)) (now (fuse .exit)) ⌝ }
+    ensures right { λ r. ⌜ Appends b h next n found note (now (key .entry)) (now (value .entry)) (now (noise .entry)) (now (chip .entry)) (now (fuse .entry)) (now (index .entry)) (now (chip .exit)) (now (fuse .exit)) (now (index .exit)) r ⌝ }
     ensures within { λ r. ⌜ ChangeWithin b n r ⌝ }
     ensures undenied { λ r. ⌜ Undenied r ⌝ }
 {
@@ -132,7 +133,9 @@ fn append(
 }
 
 // Whether the key has no entry.
-fn is_missing(found: Found) -> bool {
+fn is_missing(found: Found) -> bool
+    ensures { λ r. ⌜ r ≡ isMissing found ⌝ }
+{
     match found {
         Found::At(_) => false,
         Found::Missing(_) => true,
@@ -141,7 +144,8 @@ fn is_missing(found: Found) -> bool {
 
 // The refusals 4 and 3; 0 if none is due.
 fn denied(found: Found, note: bool, n: usize, b: usize) -> u32
-    requires { ⌜ b ≤ 2048 ⌝ }
+    requires { ⌜ (b ≤ 2048) × (n ≤ room b) ⌝ }
+    ensures { λ r. ⌜ r ≡ denial note (isMissing found) n b ⌝ }
 {
     if !is_missing(found) {
         return 0;
@@ -149,7 +153,8 @@ fn denied(found: Found, note: bool, n: usize, b: usize) -> u32
     if note {
         return 4;
     }
-    if log::room(b) <= n {
+    let left = log::room(b) - n;
+    if left < 1 {
         return 3;
     }
     0
@@ -170,8 +175,8 @@ fn make_change(
     noise: &[u8],
 ) -> Change
     requires { ⌜ Sane b (now chip) (now index) (now noise) n h × (next ≤ 15) ⌝ }
-    requires { ⌜ (n < length (now index)) × Keyed (now key) (now value) ⌝ }
-    ensures did { λ r. ⌜ Did (b - 2) (16 * (b - 2) + 1) (now (noise .entry)) (now (chip .entry)) (now (fuse .entry)) (now (chip .exit)) (now (fuse .exit)) ⌝ }
+    requires { ⌜ (n < length (now index)) × Keyed (now key) (now value) × (n ≤ room b) ⌝ }
+    ensures right { λ r. ⌜ Alters b h next n note (now (key .entry)) (now (value .entry)) (now (noise .entry)) (now (chip .entry)) (now (fuse .entry)) (now (index .entry)) (now (chip .exit)) (now (fuse .exit)) (now (index .exit)) r ⌝ }
     ensures within { λ r. ⌜ ChangeWithin b n r ⌝ }
     ensures kept { λ r. ⌜ ChangeKept (now (chip .entry)) (now (index .entry)) (now (chip .exit)) (now (index .exit)) r ⌝ }
 {
@@ -221,12 +226,12 @@ fn run_change(
     noise: &[u8],
 ) -> Answer
     requires { ⌜ Checked (now chip) (now work) × Keyed (now key) (now value) × (length (now noise) ≡ 4096) ⌝ }
-    ensures { λ r. ⌜ Ended (now (noise .entry)) (now (chip .entry)) (now (fuse .entry)) (now (work .entry)) (now (chip .exit)) (now (fuse .exit)) (now (work .exit)) r ⌝ }
+    ensures { λ r. ⌜ Runs note (now (key .entry)) (now (value .entry)) (now (noise .entry)) (now (chip .entry)) (now (fuse .entry)) (now (work .entry)) (now (chip .exit)) (now (fuse .exit)) (now (work .exit)) r ⌝ }
 {
     let b = chip.len() / 4096;
-    let h = word(work[1]);
-    let next = word(work[2]);
-    let n = word(work[3]);
+    let h = index::word(work[1]);
+    let next = index::word(work[2]);
+    let n = index::word(work[3]);
     match make_change(
         chip,
         &mut work[16..],
@@ -255,7 +260,8 @@ fn run_change(
 
 // The refusals of put and delete that need no search: 5, 7, 8, 1 and 2; 0 if none is due.
 fn refusal(chip: &[u8], work: &[u32], key: &[u8], value: &[u8], fuse: u64) -> u32
-    ensures { λ r. ⌜ (r ≡ 0 → Checked (now (chip .entry)) (now (work .entry)) × Keyed (now (key .entry)) (now (value .entry))) ⌝ }
+    ensures tested { λ r. ⌜ Tested (now (chip .entry)) fuse (now (work .entry)) (keyNumber (now (key .entry)) (now (value .entry))) r ⌝ }
+    ensures keyed { λ r. ⌜ (r ≡ 0 → Keyed (now (key .entry)) (now (value .entry))) ⌝ }
 {
     let k = unready(chip, work, fuse);
     if 0 < k {
@@ -282,7 +288,7 @@ pub fn put(
     key: &[u8],
     value: &[u8],
 ) -> Answer
-    ensures { λ r. ⌜ Ended (now (noise .entry)) (now (chip .entry)) (now (fuse .entry)) (now (work .entry)) (now (chip .exit)) (now (fuse .exit)) (now (work .exit)) r ⌝ }
+    ensures { λ r. ⌜ PutEnds (now (noise .entry)) (now (chip .entry)) (now (fuse .entry)) (now (work .entry)) (now (key .entry)) (now (value .entry)) (now (chip .exit)) (now (fuse .exit)) (now (work .exit)) r ⌝ }
 {
     let k = refusal(chip, work, key, value, *fuse);
     if 0 < k {
@@ -299,7 +305,7 @@ pub fn delete(
     noise: &[u8; 4096],
     key: &[u8],
 ) -> Answer
-    ensures { λ r. ⌜ Ended (now (noise .entry)) (now (chip .entry)) (now (fuse .entry)) (now (work .entry)) (now (chip .exit)) (now (fuse .exit)) (now (work .exit)) r ⌝ }
+    ensures { λ r. ⌜ DeleteEnds (now (noise .entry)) (now (chip .entry)) (now (fuse .entry)) (now (work .entry)) (now (key .entry)) (now (chip .exit)) (now (fuse .exit)) (now (work .exit)) r ⌝ }
 {
     let none = &key[..0];
     let k = refusal(chip, work, key, none, *fuse);
@@ -314,7 +320,8 @@ pub fn delete(
 // The value on page p goes to the start of the buffer.
 fn hand_out(chip: &[u8], p: usize, buffer: &mut [u8]) -> Answer
     requires { ⌜ 256 * p + 256 ≤ length (now chip) ⌝ }
-    ensures { λ r. ⌜ Got (now (buffer .entry)) (now (buffer .exit)) r ⌝ }
+    ensures got { λ r. ⌜ Got (now (buffer .entry)) (now (buffer .exit)) r ⌝ }
+    ensures right { λ r. ⌜ Gets (now (buffer .entry)) (now (buffer .exit)) (gotten (now (buffer .entry)) (some (valueAt (now (chip .entry)) p))) r ⌝ }
 {
     let value = record::value_at(chip, p);
     if buffer.len() < value.len() {
@@ -328,13 +335,15 @@ fn hand_out(chip: &[u8], p: usize, buffer: &mut [u8]) -> Answer
     Answer::Done(value.len())
 }
 
+// The value of the key, by the index.
 fn fetch(chip: &[u8], index: &[u32], n: usize, key: &[u8], buffer: &mut [u8]) -> Answer
     requires { ⌜ n ≤ length (now index) ⌝ }
-    ensures { λ r. ⌜ Got (now (buffer .entry)) (now (buffer .exit)) r ⌝ }
+    ensures got { λ r. ⌜ Got (now (buffer .entry)) (now (buffer .exit)) r ⌝ }
+    ensures right { λ r. ⌜ Fetches (now (chip .entry)) (take n (now (index .entry))) (now (key .entry)) (now (buffer .entry)) (now (buffer .exit)) r ⌝ }
 {
     match index::find(chip, index, n, key) {
         Found::At(i) => {
-            let p = word(index[i]);
+            let p = index::word(index[i]);
             if chip.len() / 256 <= p {
                 return Answer::Refused(8);
             }
@@ -346,24 +355,28 @@ fn fetch(chip: &[u8], index: &[u32], n: usize, key: &[u8], buffer: &mut [u8]) ->
 
 // The value's length; the value stands at the start of the buffer, and the rest of the buffer is unchanged.
 pub fn get(chip: &[u8], work: &[u32], fuse: &u64, key: &[u8], buffer: &mut [u8]) -> Answer
-    ensures { λ r. ⌜ Got (now (buffer .entry)) (now (buffer .exit)) r ⌝ }
+    ensures got { λ r. ⌜ Got (now (buffer .entry)) (now (buffer .exit)) r ⌝ }
+    ensures right { λ r. ⌜ (GetEnds (now (chip .entry)) (now (fuse .entry)) (now (work .entry)) (now (key .entry)) (now (buffer .entry)) (now (buffer .exit)) r) ⌝ }
 {
     let none = &key[..0];
     let k = refusal(chip, work, key, none, *fuse);
     if 0 < k {
         return Answer::Refused(k);
     }
-    let n = word(work[3]);
+    let n = index::word(work[3]);
     fetch(chip, &work[16..], n, key, buffer)
 }
 
 // How many keys have a value.
-pub fn count(chip: &[u8], work: &[u32], fuse: &u64) -> Answer {
+pub fn count(chip: &[u8], work: &[u32], fuse: &u64) -> Answer
+    ensures said { λ r. ⌜ Counted (now (work .entry)) r ⌝ }
+    ensures right { λ r. ⌜ (CountEnds (now (chip .entry)) (now (fuse .entry)) (now (work .entry)) r) ⌝ }
+{
     let k = unready(chip, work, *fuse);
     if 0 < k {
         return Answer::Refused(k);
     }
-    Answer::Done(word(work[3]))
+    Answer::Done(index::word(work[3]))
 }
 
 // ---- start
@@ -512,7 +525,7 @@ fn replay(chip: &[u8], index: &mut [u32], b: usize, h: usize) -> usize
 // The area is made ready for the head h.
 fn make_ready(chip: &[u8], work: &mut [u32], b: usize, h: usize) -> Answer
     requires { ⌜ Sized (now chip) (now work) × (b ≡ blocksOf (now chip)) × (h < b) × (getD (now work) 0 0 ≡ 0) ⌝ }
-    ensures { λ r. ⌜ ReadyMade (now (work .exit)) r ⌝ }
+    ensures { λ r. ⌜ Readies (now (chip .entry)) h (now (work .exit)) r ⌝ }
 {
     let next = find_next(chip, h);
     let n = replay(chip, &mut work[16..], b, h);
@@ -526,7 +539,7 @@ fn make_ready(chip: &[u8], work: &mut [u32], b: usize, h: usize) -> Answer
 
 // Reads the chip and makes the store ready; the map is the one that was there. It writes nothing to the chip.
 pub fn start(chip: &[u8], work: &mut [u32], fuse: &u64) -> Answer
-    ensures { λ r. ⌜ Started (now (work .entry)) (now (work .exit)) r ⌝ }
+    ensures { λ r. ⌜ StartEnds (now (chip .entry)) (now (fuse .entry)) (now (work .entry)) (now (work .exit)) r ⌝ }
 {
     let b = blocks(chip, work);
     if b == 0 {
@@ -548,7 +561,8 @@ pub fn start(chip: &[u8], work: &mut [u32], fuse: &u64) -> Answer
 // Erases the blocks one after the other. Answers whether the power stayed.
 fn erase_all(chip: &mut [u8], b: usize, fuse: &mut u64, noise: &[u8]) -> bool
     requires { ⌜ (4 ≤ b) × (b ≤ 2048) × (length (now chip) ≡ 4096 * b) × (length (now noise) ≡ 4096) ⌝ }
-    ensures { λ r. ⌜ Did b 0 (now (noise .entry)) (now (chip .entry)) (now (fuse .entry)) (now (chip .exit)) (now (fuse .exit)) ⌝ }
+    ensures did { λ r. ⌜ Did b 0 (now (noise .entry)) (now (chip .entry)) (now (fuse .entry)) (now (chip .exit)) (now (fuse .exit)) ⌝ }
+    ensures right { λ r. ⌜ Clears b (now (chip .exit)) (now (fuse .exit)) r ⌝ }
 {
     let mut x = 0;
     while x < b {
@@ -563,7 +577,8 @@ fn erase_all(chip: &mut [u8], b: usize, fuse: &mut u64, noise: &[u8]) -> bool
 
 // Erases every block; the map is empty. A start must follow it.
 pub fn format(chip: &mut [u8], work: &mut [u32], fuse: &mut u64, noise: &[u8; 4096]) -> Answer
-    ensures { λ r. ⌜ Formatted (now (noise .entry)) (now (chip .entry)) (now (fuse .entry)) (now (work .entry)) (now (chip .exit)) (now (fuse .exit)) (now (work .exit)) r ⌝ }
+    ensures did { λ r. ⌜ Did (blocksOf (now (chip .entry))) 0 (now (noise .entry)) (now (chip .entry)) (now (fuse .entry)) (now (chip .exit)) (now (fuse .exit)) ⌝ }
+    ensures right { λ r. ⌜ FormatEnds (now (chip .entry)) (now (fuse .entry)) (now (work .entry)) (now (chip .exit)) (now (fuse .exit)) (now (work .exit)) r ⌝ }
 {
     let b = blocks(chip, work);
     if b == 0 {

@@ -191,6 +191,13 @@ fn make_chip(chip: &mut [u8; 16384], kind: usize, x: &mut u64) {
 
 // ---- tallies: 64 numbers for each kind
 
+// From which slot on the ten answers of a call stand, the same for every kind.
+const PUTS: usize = 10;
+
+const DELETES: usize = 20;
+
+const GETS: usize = 30;
+
 fn add(tally: &mut [u64; 512], kind: usize, slot: usize, by: u64) {
     let i = kind % 8 * 64 + slot % 64;
     tally[i] = tally[i] % 1000000000 + by % 1000000000;
@@ -302,10 +309,10 @@ fn change(
     let key = [random_key(x)];
     let value = [random_byte(x)];
     let put = store::put(chip, work, &mut fuse, noise, &key, &value);
-    note(tally, kind, 10, put);
+    note(tally, kind, PUTS, put);
     let other = [random_key(x)];
     let deleted = store::delete(chip, work, &mut fuse, noise, &other);
-    note(tally, kind, 20, deleted);
+    note(tally, kind, DELETES, deleted);
 }
 
 fn change_often(
@@ -334,14 +341,14 @@ fn use_store(
     x: &mut u64,
 ) {
     read_count(chip, work, tally, kind, 50);
-    read_all(chip, work, tally, kind, 30, 51);
+    read_all(chip, work, tally, kind, GETS, 51);
     change_often(chip, work, noise, tally, kind, 8, x);
     read_count(chip, work, tally, kind, 52);
     let fuse = UNCUT;
     let again = store::start(chip, work, &fuse);
     note(tally, kind, 40, again);
     read_count(chip, work, tally, kind, 53);
-    read_all(chip, work, tally, kind, 30, 54);
+    read_all(chip, work, tally, kind, GETS, 54);
 }
 
 fn try_chip(
@@ -490,7 +497,7 @@ fn try_put(
     let key = [random_key(x)];
     let value = [random_byte(x)];
     let answer = store::put(chip, work, &mut fuse, noise, &key, &value);
-    judge(before, chip, tally, kind, 0, answer);
+    judge(before, chip, tally, kind, PUTS, answer);
 }
 
 fn try_delete(
@@ -506,7 +513,7 @@ fn try_delete(
     let mut fuse = UNCUT;
     let key = [random_key(x)];
     let answer = store::delete(chip, work, &mut fuse, noise, &key);
-    judge(before, chip, tally, kind, 10, answer);
+    judge(before, chip, tally, kind, DELETES, answer);
 }
 
 // Get must leave the buffer as it was from the value's end on.
@@ -515,10 +522,10 @@ fn try_get(chip: &[u8; 16384], work: &[u32; 80], tally: &mut [u64; 512], kind: u
     let key = [random_key(x)];
     let mut buffer = [170u8; 96];
     let answer = store::get(chip, work, &fuse, &key, &mut buffer);
-    note(tally, kind, 20, answer);
+    note(tally, kind, GETS, answer);
     add(tally, 7, 2, touched(&buffer, amount(answer)));
     let many = store::count(chip, work, &fuse);
-    note(tally, kind, 30, many);
+    note(tally, kind, 40, many);
     add(tally, kind, 51, amount(many));
 }
 
@@ -585,12 +592,17 @@ fn try_areas(
 
 // ---- the report
 
+// The rows that the chips and the work areas have in common.
+fn print_calls(tally: &[u64; 512], kind: usize) {
+    print_ten(b"put", tally, kind, PUTS);
+    print_ten(b"delete", tally, kind, DELETES);
+    print_ten(b"get", tally, kind, GETS);
+}
+
 fn print_chips(tally: &[u64; 512], name: &[u8], kind: usize) {
     text(name);
     print_ten(b"start", tally, kind, 0);
-    print_ten(b"put", tally, kind, 10);
-    print_ten(b"delete", tally, kind, 20);
-    print_ten(b"get", tally, kind, 30);
+    print_calls(tally, kind);
     print_ten(b"start again", tally, kind, 40);
     print_one(b"keys at the start", tally, kind, 50);
     print_one(b"values at the start", tally, kind, 51);
@@ -601,10 +613,8 @@ fn print_chips(tally: &[u64; 512], name: &[u8], kind: usize) {
 
 fn print_areas(tally: &[u64; 512], name: &[u8], kind: usize) {
     text(name);
-    print_ten(b"put", tally, kind, 0);
-    print_ten(b"delete", tally, kind, 10);
-    print_ten(b"get", tally, kind, 20);
-    print_ten(b"count", tally, kind, 30);
+    print_calls(tally, kind);
+    print_ten(b"count", tally, kind, 40);
     print_one(b"bytes changed", tally, kind, 50);
     print_one(b"keys counted", tally, kind, 51);
 }
@@ -617,8 +627,8 @@ fn report(tally: &[u64; 512]) {
     print_chips(tally, b"first rounds\n", 3);
     text(b"the stores whose work areas are overwritten\n");
     print_ten(b"start", tally, 4, 0);
-    print_ten(b"put", tally, 4, 10);
-    print_ten(b"delete", tally, 4, 20);
+    print_ten(b"put", tally, 4, PUTS);
+    print_ten(b"delete", tally, 4, DELETES);
     print_areas(tally, b"work areas overwritten within the ranges\n", 5);
     print_areas(tally, b"work areas overwritten\n", 6);
     print_one(b"calls on overwritten areas", tally, 7, 0);

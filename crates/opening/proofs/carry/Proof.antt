@@ -1,18 +1,18 @@
 -- `opening::carry` meets its contract. Assumes nothing.
-use mathlib.Core.Path.{sym, _∙_}
+use mathlib.Core.Path.{refl, sym, ap, _∙_}
+use Prim.Native.Nat.{ℕ, _+_, _*_}
 use native.Mathlib.Omega.{arith}
-use borrow.Author.Tests.{not-false}
-use Rattle.chip.proofs.Plays.{did-none, did-more}
-use Rattle.opening.proofs.Runs.{did-copy}
+use borrow.Author.Tests.{not-true, not-false}
+use Rattle.opening.proofs.Turns.{carry-full, carry-dirty, carry-dark, carry-on}
 use borrow.Author.Needs.{needs}
 use Rattle.opening.proofs.carry.Statement.{statement}
 use Rattle.opening.proofs.carry.Tie as tie
 
 returns : tie.Need-returns
-returns c = (did-more (omega arith) (omega arith) (did-none _ _), search needs)
+returns c = (carry-full _ (c .before .before .before .before .pre .0 .some-blocks) _ _ _ _ _ _ _ _ _ _ refl (c .if1 .taken), search needs)
 
 returns-2 : tie.Need-returns-2
-returns-2 c = (did-more (omega arith) (omega arith) (did-none _ _), search needs)
+returns-2 c = (carry-dirty _ (c .before .before .before .before .before .before .before .before .pre .0 .some-blocks) _ _ _ _ _ _ _ _ _ _ (ap (λ (x : ℕ). 16 * x + c .before .before .before .before .before .before .before .before .args .k) (c .before .before .before .block-after .ensures .0)) (omega arith) (sym (c .before .blank-at .ensures) ∙ not-true _ (c .if2 .taken)), search needs)
 
 write-requires : tie.Need-write-requires
 write-requires c κs = let st = c .before .before .before .before .before .before .before .before .before .before .before .before .before in
@@ -20,11 +20,11 @@ write-requires c κs = let st = c .before .before .before .before .before .befor
 
 returns-3 : tie.Need-returns-3
 returns-3 c = let st = c .before .before .before .before .before .before .before .before .before .before .before .before .before .before .before .before .before .before in
-    (did-copy _ _ _ _ _ _ (omega (arith, st .pre .0 .size)) (sym (c .before .before .before .before .before .before .before .before .before .before .before .blank-at .ensures) ∙ not-false _ (c .before .before .before .before .before .before .before .before .before .before .if2 .left)) (c .before .before .before .before .write .ensures .1) (st .args .q) _ (st .pre .1 .0) (λ i. omega (arith, c .before .before .before .before .before .before .before .before .before .before .before .before .before .before .before .before .before .slice-known .given i)) (c .before .before .before .before .before .before .before .before .copy-of .ensures) (c .before .before .before .before .write .ensures .0), search needs)
+    (carry-dark _ (st .pre .0 .some-blocks) _ _ _ _ _ _ _ _ _ _ (ap (λ (x : ℕ). 16 * x + st .args .k) (c .before .before .before .before .before .before .before .before .before .before .before .before .before .block-after .ensures .0)) (omega arith) _ _ _ (omega (arith, st .pre .0 .size)) (sym (c .before .before .before .before .before .before .before .before .before .before .before .blank-at .ensures) ∙ not-false _ (c .before .before .before .before .before .before .before .before .before .before .if2 .left)) (c .before .before .before .before .write .ensures .1) (st .pre .1 .0) (λ i. omega (arith, c .before .before .before .before .before .before .before .before .before .before .before .before .before .before .before .before .before .slice-known .given i)) (c .before .before .before .before .before .before .before .before .copy-of .ensures) (c .before .before .before .before .write .ensures .0) (omega arith), search needs)
 
 returns-4 : tie.Need-returns-4
 returns-4 c = let st = c .before .before .before .before .before .before .before .before .before .before .before .before .before .before .before .before .before .before in
-    (did-copy _ _ _ _ _ _ (omega (arith, st .pre .0 .size)) (sym (c .before .before .before .before .before .before .before .before .before .before .before .blank-at .ensures) ∙ not-false _ (c .before .before .before .before .before .before .before .before .before .before .if2 .left)) (c .before .before .before .before .write .ensures .1) (st .args .q) _ (st .pre .1 .0) (λ i. omega (arith, c .before .before .before .before .before .before .before .before .before .before .before .before .before .before .before .before .before .slice-known .given i)) (c .before .before .before .before .before .before .before .before .copy-of .ensures) (c .before .before .before .before .write .ensures .0), search needs)
+    (carry-on _ (st .pre .0 .some-blocks) _ _ _ _ _ _ _ _ _ _ (ap (λ (x : ℕ). 16 * x + st .args .k) (c .before .before .before .before .before .before .before .before .before .before .before .before .before .block-after .ensures .0)) (omega arith) _ _ _ (omega (arith, st .pre .0 .size)) (sym (c .before .before .before .before .before .before .before .before .before .before .before .blank-at .ensures) ∙ not-false _ (c .before .before .before .before .before .before .before .before .before .before .if2 .left)) (c .before .before .before .before .write .ensures .1) (st .pre .1 .0) (λ i. omega (arith, c .before .before .before .before .before .before .before .before .before .before .before .before .before .before .before .before .before .slice-known .given i)) (c .before .before .before .before .before .before .before .before .copy-of .ensures) (c .before .before .before .before .write .ensures .0) (omega arith) (st .pre .1 .1) _ refl, search needs)
 
 pub carry-spec : {M : Type 1} → statement M
 carry-spec =

@@ -1,8 +1,8 @@
 -- `opening::fill_spare` meets its contract. Assumes nothing.
 use mathlib.Core.Path.{_∙_, subst}
-use native.Mathlib.Omega.{arith}
-use Rattle.chip.proofs.Plays.{did-more, did-then}
 use Rattle.opening.specs.Ends.{Few}
+use Rattle.opening.specs.Steps.{Turns}
+use Rattle.opening.proofs.Opens.{fills-sealed, fills-dark, fills-dirty}
 use borrow.Author.Needs.{needs}
 use Rattle.opening.proofs.fill_spare.Statement.{statement}
 use Rattle.opening.proofs.fill_spare.Tie as tie
@@ -10,18 +10,18 @@ use Rattle.opening.proofs.fill_spare.Tie as tie
 clean-requires : tie.Need-clean-requires
 clean-requires c κs = c .before .before .before .before .before .before .pre
 
-finish-block-requires : tie.Need-finish-block-requires
-finish-block-requires c κs = let st = c .before .before .before .before .before .before .before .before .before .before .before .before .before .before .before .before in
+seal-head-requires : tie.Need-seal-head-requires
+seal-head-requires c κs = let st = c .before .before .before .before .before .before .before .before .before .before .before .before .before .before .before .before in
     (st .pre .some-blocks, st .pre .few-blocks, c .before .before .before .before .before .before .before .before .before .clean .kept .0 ∙ st .pre .size, st .pre .inside, st .pre .loud, subst Few (c .before .before .before .k .given .1) (c .before .before .before .before .before .before .before .before .before .clean .ensures .1))
 
 returns : tie.Need-returns
-returns c = (did-more (omega arith) (omega arith) (did-then (c .before .before .before .before .before .before .before .before .before .before .before .before .clean .ensures .0) (c .before .before .finish-block .ensures .0)), c .before .before .finish-block .ensures .1)
+returns c = (fills-sealed _ _ _ _ _ _ _ _ _ _ _ _ _ _ (subst (Turns _ _ _ _ _ _ _ _ _ _ _ _ _) (c .before .before .before .before .before .before .k .given .1) (c .before .before .before .before .before .before .before .before .before .before .before .before .clean .ensures .0)) (c .before .before .seal-head .ensures .0), c .before .before .seal-head .ensures .1)
 
 returns-2 : tie.Need-returns-2
-returns-2 c = (did-more (omega arith) (omega arith) (c .before .before .before .before .before .before .clean .ensures .0), search needs)
+returns-2 c = (fills-dark _ _ _ _ _ _ _ _ _ _ (subst (Turns _ _ _ _ _ _ _ _ _ _ _ _ _) (c .enum-told .given .1) (c .before .before .before .before .before .before .clean .ensures .0)), search needs)
 
 returns-3 : tie.Need-returns-3
-returns-3 c = (did-more (omega arith) (omega arith) (c .before .before .before .before .before .before .clean .ensures .0), search needs)
+returns-3 c = (fills-dirty _ _ _ _ _ _ _ _ _ _ (subst (Turns _ _ _ _ _ _ _ _ _ _ _ _ _) (c .enum-told2 .given .1) (c .before .before .before .before .before .before .clean .ensures .0)), search needs)
 
 pub fill-spare-spec : {M : Type 1} → statement M
 fill-spare-spec =
@@ -29,7 +29,7 @@ fill-spare-spec =
     (tie.spec
     clean-requires
     (λ c. search needs)
-    finish-block-requires
+    seal-head-requires
     (λ c. search needs)
     (λ c. search needs)
     (λ c. search needs)

@@ -1,30 +1,31 @@
--- `opening::make_room` meets its contract. The invariant: so far an opening for each turn. Assumes nothing.
-use mathlib.Core.Path.{_≡_, refl, _∙_, subst}
-use Prim.Native.Nat.{_-_, _*_, _≤_, _<_}
+-- `opening::make_room` meets its contract. The invariant: `Going`, an opening for each turn. Assumes nothing.
+use mathlib.Core.Path.{_≡_, refl, sym, _∙_, subst}
+use Prim.Native.Nat.{_-_, _≤_, _<_}
 use native.Mathlib.Omega.{arith}
 use lib.ListN.{length}
-use Rattle.chip.specs.Play.{Did}
-use Rattle.chip.proofs.Plays.{did-none, did-more}
 use Rattle.opening.specs.Ends.{Few}
-use Rattle.opening.proofs.Runs.{sane-moved, did-opening}
+use Rattle.opening.specs.Steps.{Opens}
+use Rattle.opening.proofs.Runs.{sane-moved}
+use Rattle.opening.proofs.Opens.{Going, going-none, going-at, going-on, going-dark, going-dirty, room-found, room-none}
 use borrow.Author.Needs.{needs}
 use Rattle.opening.proofs.make_room.Statement.{statement}
 use Rattle.opening.proofs.make_room.Tie as tie
 
 abbrev Inv-loop : tie.InvT-loop
 Inv-loop chip₀ index₀ n b h0 next0 fuse₀ noise h₀ next₀ left₀ chip index fuse h next left =
-    (left ≤ b - 2) × (next ≤ 15) × (h < b) × (length chip ≡ length chip₀) × (length index ≡ length index₀) × Did (b - 2 - left) (16 * (b - 2 - left)) noise chip₀ fuse₀ chip fuse
+    (left ≤ b - 2) × (next ≤ 15) × (h < b) × (length chip ≡ length chip₀) × (length index ≡ length index₀)
+    × ((big : 4 ≤ b) → Going b big n h0 next0 noise chip₀ fuse₀ index₀ chip fuse index h next left)
 
 abbrev μ-loop : tie.MeasureT-loop
 μ-loop chip₀ index₀ n b h0 next0 fuse₀ noise h₀ next₀ left₀ chip index fuse h next left = left
 
 loop-holds : tie.Need-loop-holds Inv-loop μ-loop
 loop-holds c = let st = c .before .before .before in
-    (omega arith, st .pre .1, st .pre .0 .inside, refl, refl, did-more (omega arith) (omega arith) (did-none _ _))
+    (omega arith, st .pre .1, st .pre .0 .inside, refl, refl, λ big. going-none _ big _ _ _ _ _ _ _)
 
 returns : tie.Need-returns Inv-loop μ-loop
 returns c = let l = c .before .before .loop in
-    (did-more (omega arith) (omega arith) (l .inv .5), (l .inv .2, c .if1 .taken))
+    (room-found _ (c .before .before .before .before .before .before .pre .0 .some-blocks) _ _ _ _ _ _ _ _ _ _ _ _ _ (l .inv .0) (l .inv .5 (c .before .before .before .before .before .before .pre .0 .some-blocks)), (l .inv .2, omega (arith, c .if1 .taken)))
 
 open-next-requires : tie.Need-open-next-requires Inv-loop μ-loop
 open-next-requires c κs = let l = c .before .before .before .before .before .loop in
@@ -32,11 +33,11 @@ open-next-requires c κs = let l = c .before .before .before .before .before .lo
 
 returns-2 : tie.Need-returns-2 Inv-loop μ-loop
 returns-2 c = let l = c .before .before .before .before .before .before .before .before .before .before .before .before .loop in
-    (did-more (omega arith) (omega arith) (did-opening (c .before .before .before .before .before .before .before .before .before .before .before .before .before .before .before .before .args .b - 2) (l .left) _ _ _ _ _ _ _ (omega arith) (l .inv .0) (l .inv .5) (c .before .before .before .before .before .before .open-next .ensures .0)), search needs)
+    (going-dark _ (c .before .before .before .before .before .before .before .before .before .before .before .before .before .before .before .before .pre .0 .some-blocks) _ _ _ _ _ _ _ _ _ _ _ _ _ (omega arith) (l .inv .0) (omega arith) (l .inv .5 (c .before .before .before .before .before .before .before .before .before .before .before .before .before .before .before .before .pre .0 .some-blocks)) _ _ _ (subst (Opens _ _ _ _ _ _ _ _ _ _) (c .enum-told .given .1) (c .before .before .before .before .before .before .open-next .ensures .0)), search needs)
 
 returns-3 : tie.Need-returns-3 Inv-loop μ-loop
 returns-3 c = let l = c .before .before .before .before .before .before .before .before .before .before .before .before .loop in
-    (did-more (omega arith) (omega arith) (did-opening (c .before .before .before .before .before .before .before .before .before .before .before .before .before .before .before .before .args .b - 2) (l .left) _ _ _ _ _ _ _ (omega arith) (l .inv .0) (l .inv .5) (c .before .before .before .before .before .before .open-next .ensures .0)), search needs)
+    (going-dirty _ (c .before .before .before .before .before .before .before .before .before .before .before .before .before .before .before .before .pre .0 .some-blocks) _ _ _ _ _ _ _ _ _ _ _ _ _ (omega arith) (l .inv .0) (omega arith) (l .inv .5 (c .before .before .before .before .before .before .before .before .before .before .before .before .before .before .before .before .pre .0 .some-blocks)) _ _ _ (subst (Opens _ _ _ _ _ _ _ _ _ _) (c .enum-told2 .given .1) (c .before .before .before .before .before .before .open-next .ensures .0)), search needs)
 
 block-after-requires : tie.Need-block-after-requires Inv-loop μ-loop
 block-after-requires c κs = let st = c .before .before .before .before .before .before .before .before .before .before .before .before .before .before .before .before .before in
@@ -44,15 +45,15 @@ block-after-requires c κs = let st = c .before .before .before .before .before 
 
 loop-again : tie.Need-loop-again Inv-loop μ-loop
 loop-again c = let l = c .before .before .before .before .before .before .before .before .before .before .before .before .before .before .loop in
-    (omega (arith, l .inv .0), subst Few (c .before .before .k .given .1) (c .before .before .before .before .before .before .before .before .open-next .ensures .1), c .block-after .ensures .1, c .before .before .before .before .before .before .before .before .open-next .kept .0 ∙ l .inv .3, c .before .before .before .before .before .before .before .before .open-next .kept .1 .0 ∙ l .inv .4, did-opening (c .before .before .before .before .before .before .before .before .before .before .before .before .before .before .before .before .before .before .args .b - 2) (l .left) _ _ _ _ _ _ _ (omega arith) (l .inv .0) (l .inv .5) (c .before .before .before .before .before .before .before .before .open-next .ensures .0))
+    (omega (arith, l .inv .0), subst Few (c .before .before .k .given .1) (c .before .before .before .before .before .before .before .before .open-next .ensures .1), c .block-after .ensures .1, c .before .before .before .before .before .before .before .before .open-next .kept .0 ∙ l .inv .3, c .before .before .before .before .before .before .before .before .open-next .kept .1 .0 ∙ l .inv .4, λ big. going-at _ big _ _ _ _ _ _ _ _ _ _ _ _ _ _ (sym (c .block-after .ensures .0)) (going-on _ big _ _ _ _ _ _ _ _ _ _ _ _ _ (omega arith) (l .inv .0) (omega arith) (l .inv .5 big) _ _ _ _ (subst (Opens _ _ _ _ _ _ _ _ _ _) (c .before .before .k .given .1) (c .before .before .before .before .before .before .before .before .open-next .ensures .0))))
 
 returns-4 : tie.Need-returns-4 Inv-loop μ-loop
 returns-4 c = let l = c .before .before .loop in
-    (did-more (omega arith) (omega arith) (l .inv .5), (l .inv .2, c .if2 .taken))
+    (room-found _ (c .before .before .before .before .before .before .pre .0 .some-blocks) _ _ _ _ _ _ _ _ _ _ _ _ _ (l .inv .0) (l .inv .5 (c .before .before .before .before .before .before .pre .0 .some-blocks)), (l .inv .2, omega (arith, c .if2 .taken)))
 
 returns-5 : tie.Need-returns-5 Inv-loop μ-loop
 returns-5 c = let l = c .before .before .loop in
-    (did-more (omega arith) (omega arith) (l .inv .5), search needs)
+    (room-none _ (c .before .before .before .before .before .before .pre .0 .some-blocks) _ _ _ _ _ _ _ _ _ _ _ _ _ (l .inv .0) (l .inv .5 (c .before .before .before .before .before .before .pre .0 .some-blocks)) (omega arith) (omega arith), search needs)
 
 pub make-room-spec : {M : Type 1} → statement M
 make-room-spec =

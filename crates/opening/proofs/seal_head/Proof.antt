@@ -1,24 +1,23 @@
 -- `opening::seal_head` meets its contract. Assumes nothing.
 use mathlib.Core.Path.{sym, _∙_}
 use native.Mathlib.Omega.{arith}
-use borrow.Author.Tests.{not-false}
-use Rattle.chip.proofs.Plays.{did-none, did-more}
-use Rattle.opening.proofs.Runs.{did-seal}
+use borrow.Author.Tests.{not-true, not-false}
+use Rattle.opening.proofs.Opens.{seal-dirty, seal-dark, seal-on}
 use borrow.Author.Needs.{needs}
 use Rattle.opening.proofs.seal_head.Statement.{statement}
 use Rattle.opening.proofs.seal_head.Tie as tie
 
 returns : tie.Need-returns
-returns c = did-more (omega arith) (omega arith) (did-none _ _)
+returns c = (seal-dirty _ (c .before .before .before .before .before .pre .0) _ _ _ _ _ (sym (c .before .blank-at .ensures) ∙ not-true _ (c .if1 .taken)), search needs)
 
 write-requires : tie.Need-write-requires
 write-requires c κs = (search needs, sym (c .before .before .before .before .before .blank-at .ensures) ∙ not-false _ (c .before .before .before .before .if1 .left))
 
 returns-2 : tie.Need-returns-2
-returns-2 c = did-seal _ _ _ _ _ _ (omega arith) (sym (c .before .before .before .before .before .before .before .before .before .before .blank-at .ensures) ∙ not-false _ (c .before .before .before .before .before .before .before .before .before .if1 .left)) (c .before .before .before .before .write .ensures .1) _ (c .before .before .before .before .before .before .before .before .seal .ensures) (c .before .before .before .before .write .ensures .0)
+returns-2 c = (seal-dark _ (c .before .before .before .before .before .before .before .before .before .before .before .before .before .before .pre .0) _ _ _ _ _ _ _ _ (omega arith) (sym (c .before .before .before .before .before .before .before .before .before .before .blank-at .ensures) ∙ not-false _ (c .before .before .before .before .before .before .before .before .before .if1 .left)) (c .before .before .before .before .write .ensures .1) (c .before .before .before .before .before .before .before .before .seal .ensures) (c .before .before .before .before .write .ensures .0) (omega arith), search needs)
 
 returns-3 : tie.Need-returns-3
-returns-3 c = did-seal _ _ _ _ _ _ (omega arith) (sym (c .before .before .before .before .before .before .before .before .before .before .blank-at .ensures) ∙ not-false _ (c .before .before .before .before .before .before .before .before .before .if1 .left)) (c .before .before .before .before .write .ensures .1) _ (c .before .before .before .before .before .before .before .before .seal .ensures) (c .before .before .before .before .write .ensures .0)
+returns-3 c = (seal-on _ (c .before .before .before .before .before .before .before .before .before .before .before .before .before .before .pre .0) _ _ _ _ _ _ _ _ (omega arith) (sym (c .before .before .before .before .before .before .before .before .before .before .blank-at .ensures) ∙ not-false _ (c .before .before .before .before .before .before .before .before .before .if1 .left)) (c .before .before .before .before .write .ensures .1) (c .before .before .before .before .before .before .before .before .seal .ensures) (c .before .before .before .before .write .ensures .0) (omega arith), search needs)
 
 pub seal-head-spec : {M : Type 1} → statement M
 seal-head-spec =

@@ -1,20 +1,35 @@
 -- `store::get` meets its contract. Assumes nothing.
+use mathlib.Core.Path.{refl}
 use native.Mathlib.Omega.{arith}
+use Rattle.store.proofs.Gets.{get-refused, get-fetched}
 use borrow.Author.Needs.{needs}
 use Rattle.store.proofs.get.Statement.{statement}
 use Rattle.store.proofs.get.Tie as tie
 
+returns : tie.Need-returns
+returns c = let a = c .before .before .before .before .before .before .before .before .args in (
+  record { ends = refl },
+  λ h. get-refused (a .chip .now) (a .fuse .now) (a .work .now) (a .key .now) (a .buffer .now) (a .buffer .now) _ (c .before .refusal .ensures .0) h (omega arith),
+)
+
 shared-slice-read-word : tie.Need-shared-slice-read-word
-shared-slice-read-word c = omega (arith, (c .before .before .refusal .ensures (omega arith)) .0 .sized .long)
+shared-slice-read-word c = omega (arith, (c .before .before .refusal .ensures .0 .checked (omega arith)) .sized .long)
 
 sub-fetch : tie.Need-sub-fetch
-sub-fetch c = omega (arith, (c .before .before .before .refusal .ensures (omega arith)) .0 .sized .long)
+sub-fetch c = omega (arith, (c .before .before .before .refusal .ensures .0 .checked (omega arith)) .sized .long)
 
 part-fetch-start : tie.Need-part-fetch-start
-part-fetch-start c = omega (arith, (c .before .before .before .refusal .ensures (omega arith)) .0 .sized .long)
+part-fetch-start c = omega (arith, (c .before .before .before .refusal .ensures .0 .checked (omega arith)) .sized .long)
 
 fetch-requires : tie.Need-fetch-requires
-fetch-requires c κs = let k = (c .before .before .before .before .before .refusal .ensures (omega arith)) .0 in omega (arith, c .before .before .word .ensures, k .few, k .sized .long)
+fetch-requires c κs = let k = c .before .before .before .before .before .refusal .ensures .0 .checked (omega arith) in omega (arith, c .before .before .word .ensures, k .few, k .sized .long)
+
+returns-2 : tie.Need-returns-2
+returns-2 c = let a = c .before .before .before .before .before .before .before .before .before .before .before .before .before .before .before .args in (
+  c .before .before .fetch .ensures .0,
+  λ h. get-fetched (a .chip .now) (a .fuse .now) (a .work .now) (a .key .now) (a .buffer .now) _ _ (c .before .before .before .before .before .before .before .before .refusal .ensures .0) h (c .before .before .before .before .before .word .result) _ (omega arith)
+      (c .before .before .before .before .before .word .ensures) (c .before .before .fetch .ensures .1),
+)
 
 pub get-spec : {M : Type 1} → statement M
 get-spec =
@@ -22,7 +37,7 @@ get-spec =
     (tie.spec
     (λ c. search needs)
     (λ c κs. search needs)
-    (λ c. search needs)
+    returns
     shared-slice-read-word
     (λ c κs. search needs)
     sub-fetch
@@ -30,4 +45,4 @@ get-spec =
     (λ c. search needs)
     fetch-requires
     (λ c. search needs)
-    (λ c. search needs))
+    returns-2)

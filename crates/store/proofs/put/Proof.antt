@@ -1,16 +1,19 @@
 -- `store::put` meets its contract. Assumes nothing.
-use mathlib.Core.Path.{refl}
 use native.Mathlib.Omega.{arith}
-use Rattle.chip.proofs.Plays.{did-none, did-more}
+use Rattle.store.proofs.Puts.{put-refused, put-ran}
 use borrow.Author.Needs.{needs}
 use Rattle.store.proofs.put.Statement.{statement}
 use Rattle.store.proofs.put.Tie as tie
 
 returns : tie.Need-returns
-returns c = record { did = did-more (omega arith) (omega arith) (did-none _ _); refused = λ _ _. (refl, refl) }
+returns c =
+    put-refused _ _ _ _ _ _ _ (omega arith) (c .before .refusal .ensures .0)
 
 run-change-requires : tie.Need-run-change-requires
-run-change-requires c κs = let r = c .before .before .before .before .before .refusal .ensures (omega arith) in (r .0, r .1, search needs)
+run-change-requires c κs = let r = c .before .before .before .before .before .refusal .ensures in (r .0 .checked (omega arith), r .1 (omega arith), search needs)
+
+returns-2 : tie.Need-returns-2
+returns-2 c = put-ran _ _ _ _ _ _ _ _ _ _ (omega arith) _ (c .before .before .before .before .before .before .before .before .before .before .refusal .ensures .0) (c .before .before .before .before .run-change .ensures)
 
 pub put-spec : {M : Type 1} → statement M
 put-spec =
@@ -23,4 +26,4 @@ put-spec =
     run-change-requires
     (λ c. search needs)
     (λ c. search needs)
-    (λ c. search needs))
+    returns-2)

@@ -1,0 +1,289 @@
+-- An opening from its beginning to the seal, and openings until there is room. Assumes nothing.
+use mathlib.Core.Path.{_≡_, refl, sym, ap, _∙_, subst}
+use mathlib.Core.List.{List, [], _∷_, _++_}
+use mathlib.Core.Option.{none}
+use mathlib.Core.Bool.{true, false, not, true≢false}
+use Prim.Native.Nat.{ℕ, suc, _+_, _-_, _*_, _%_, _≤_, _<_}
+use native.Mathlib.Omega.{arith}
+use lib.ListN.{length, take}
+use Rattle.chip.specs.Chip.{power, blankAt, written, erased}
+use Rattle.chip.specs.Play.{Op, erase, Writable, Did}
+use Rattle.chip.proofs.Power.{write-stayed, write-went, erase-stayed}
+use Rattle.chip.proofs.Plays.{did-none, did-erase, did-write, did-meant, did-more, did-then}
+use Rattle.record.specs.Record.{recAt, sealPage}
+use Rattle.log.specs.Log.{oldest, run, pages}
+use Rattle.log.specs.Ring.{Chip, chipOf, sealed, spare, table, room, Ready}
+use Rattle.log.specs.Call.{State, resting, copying, Block, Erased, Wrote, CutWrote, Leads, Cut}
+use Rattle.log.proofs.Index.{pages-length}
+use Rattle.log.proofs.Opening.{Opening, fresh, opening-erased, opening-fresh, opening-map, opening-ready}
+use Rattle.log.proofs.CallCost.{Moved, moved-start, moved-few, moved-open}
+use Rattle.log.proofs.RingLaws.{next-le}
+use Rattle.log.proofs.IndexSteps.{erased-keeps, first-keeps}
+use Rattle.log.proofs.Bytes.{wrote-seal, cut-seal, block-erased, whole-erased}
+use Rattle.log.proofs.Walk.{leads-none, leads-then, leads-cut, leads-erase, cut-erase, leads-first, leads-seal, cut-sealed}
+use Rattle.opening.specs.declared.Turn.{Turn}
+use Rattle.opening.specs.declared.Turn.the-variants.{On, Dark, Dirty}
+use Rattle.opening.specs.declared.Room.the-variants.{Place, Gone, Stuck}
+use Rattle.opening.specs.Steps.{midway, Turns, Clears, OpensBy, Seals, Fills, Opens, RoomsBy, Rooms}
+use Rattle.opening.proofs.Runs.{seal-writable}
+
+-- ---- THE BEGINNING
+module _ (B : ℕ) (big : 4 ≤ B) (noise c : List ℕ) (f h o : ℕ) (e : o ≡ (h + 2) % B) where
+  -- no place is done yet
+  start : (d : Chip) → Opening B h (chipOf c) d (oldest B (h + B)) (fresh B h) → Opening B h (chipOf c) d (oldest B (h + B) + 0) (fresh B h + 0)
+  start d x =
+      let t : oldest B (h + B) ≡ oldest B (h + B) + 0 = omega arith in
+      let s : fresh B h ≡ fresh B h + 0 = omega arith in
+      subst (λ (y : ℕ). Opening B h (chipOf c) d y (fresh B h + 0)) t (subst (λ (y : ℕ). Opening B h (chipOf c) d (oldest B (h + B)) y) s x)
+
+  begin : (c′ : List ℕ) (os : List Op) → Leads B (resting (chipOf c) h) (copying h (chipOf c) (chipOf c′) (oldest B (h + B)) (fresh B h)) os
+      → Leads B (resting (chipOf c) h) (midway B c′ h (chipOf c) 0 0) os
+  begin c′ os x =
+      let t : oldest B (h + B) ≡ oldest B (h + B) + 0 = omega arith in
+      let s : fresh B h ≡ fresh B h + 0 = omega arith in
+      subst (λ (y : ℕ). Leads B (resting (chipOf c) h) (copying h (chipOf c) (chipOf c′) y (fresh B h + 0)) os) t
+      (subst (λ (y : ℕ). Leads B (resting (chipOf c) h) (copying h (chipOf c) (chipOf c′) (oldest B (h + B)) y) os) s x)
+
+  rows : (c′ : List ℕ) → pages B (run B (recAt c′) (h + B) (fresh B h)) ≡ pages B (table B (chipOf c)) → pages B (run B (recAt c′) (h + B) (fresh B h + 0)) ≡ pages B (table B (chipOf c))
+  rows c′ x =
+      let s : fresh B h ≡ fresh B h + 0 = omega arith in
+      subst (λ (y : ℕ). pages B (run B (recAt c′) (h + B) y) ≡ pages B (table B (chipOf c))) s x
+
+  -- in the first round the oldest block is not sealed: the spare is blank
+  pub clears-first : blankAt c (16 * o + 15) ≡ true → Clears B h noise c f c f true
+  unfolding did-more did-none
+  clears-first z =
+      record {
+        did = did-more (omega arith) (omega arith) (did-none c f);
+        right = λ lit r full.
+            let t : sealed (chipOf c) ((h + 2) % B) ≡ false = ap (λ (x : ℕ). not (blankAt c (16 * x + 15))) (sym e) ∙ ap not z in (
+              lit,
+              start (chipOf c) (opening-fresh B big h (chipOf c) r t),
+              rows c (first-keeps B big h (chipOf c) r),
+              begin c [] (leads-first B (chipOf c) (chipOf c) h full t),
+            );
+      }
+
+  module _ (z : blankAt c (16 * o + 15) ≡ false) (c′ : List ℕ) (f′ s : ℕ) (i : 4096 * s + 4096 ≤ length c) (d : s ≡ (h + 1) % B) (g : f′ ≡ f - 1) (w : c′ ≡ erased (power f) noise s c) where
+    closed : sealed (chipOf c) ((h + 2) % B) ≡ true
+    closed = ap (λ (x : ℕ). not (blankAt c (16 * x + 15))) (sym e) ∙ ap not z
+
+    block : (q : c′ ≡ erased (power f) noise s c) → Block (spare B h) (chipOf c) (chipOf c′)
+    block q =
+        subst (λ (x : ℕ). Block x (chipOf c) (chipOf c′)) d
+        (subst (λ (x : List ℕ). Block s (chipOf c) (chipOf x)) (sym q) (block-erased noise s c i (power f)))
+
+    -- the erase was whole
+    pub clears-erased : 0 < f′ → Clears B h noise c f c′ f′ true
+    unfolding did-erase
+    clears-erased on =
+        record {
+          did = did-erase s c c′ f f′ i w g;
+          right = λ lit r full.
+              let v : Erased (spare B h) (chipOf c) (chipOf c′) =
+              subst (λ (x : ℕ). Erased x (chipOf c) (chipOf c′)) d
+              (subst (λ (x : List ℕ). Erased s (chipOf c) (chipOf x)) (sym (erase-stayed noise c c′ f f′ g s w on)) (whole-erased noise s c i)) in (
+                on,
+                start (chipOf c′) (opening-erased B big h (chipOf c) (chipOf c′) r closed (v .block) (v .blank)),
+                rows c′ (erased-keeps B big h (chipOf c) (chipOf c′) r (v .block)),
+                subst (λ (x : ℕ). Leads B (resting (chipOf c) h) (midway B c′ h (chipOf c) 0 0) (erase x ∷ [])) (sym d)
+                    (begin c′ (erase (spare B h) ∷ []) (leads-erase B (chipOf c) (chipOf c′) h full closed v)),
+              );
+        }
+
+    -- the power went
+    pub clears-dark : f′ ≡ 0 → Clears B h noise c f c′ f′ false
+    unfolding did-erase
+    clears-dark gone =
+        record {
+          did = did-erase s c c′ f f′ i w g;
+          right = λ lit r full. (
+            gone,
+            subst (λ (x : ℕ). Cut B (resting (chipOf c) h) (chipOf c′) (erase x ∷ [])) (sym d) (cut-erase B (chipOf c) (chipOf c′) h full closed (block w)),
+          );
+        }
+
+-- ---- THE SEAL
+module _ (B : ℕ) (big : 4 ≤ B) (noise c : List ℕ) (f h k : ℕ) where
+  -- the page of the seal would not be blank
+  pub seal-dirty : blankAt c (16 * h + 15) ≡ false → Seals B h k noise c f c f Dirty
+  seal-dirty z =
+      record {
+        did = did-more (omega arith) (omega arith) (did-none c f);
+        right = λ c₀ n ix lit m full few. true≢false (sym (ap not z) ∙ m .opening .ring .unsealed);
+      }
+
+  module _ (c′ new : List ℕ) (f′ : ℕ) (i : 256 * (16 * h + 15) + 256 ≤ length c) (z : blankAt c (16 * h + 15) ≡ true) (g : f′ ≡ f - 1) (u : new ≡ sealPage)
+      (w : c′ ≡ written (power f) noise (16 * h + 15) new c) where
+    fit : Writable (16 * h + 15) sealPage c
+    fit = seal-writable noise c c′ f f′ (16 * h + 15) i z g
+
+    did : Did 0 1 noise c f c′ f′
+    did = did-meant (16 * h + 15) sealPage new c c′ f f′ fit u w g
+
+    -- the power went
+    pub seal-dark : f′ ≡ 0 → Seals B h k noise c f c′ f′ Dark
+    unfolding did did-meant did-write
+    seal-dark gone =
+        record {
+          did = did;
+          right = λ c₀ n ix lit m full few. (
+            gone,
+            cut-sealed B h c₀ (chipOf c) (chipOf c′) (fresh B h + k) sealPage
+                (subst (λ (d : List ℕ). CutWrote (16 * h + 15) none (chipOf c) (chipOf d)) (sym (write-went noise c c′ f f′ g (16 * h + 15) sealPage new u w lit gone))
+                (cut-seal noise (16 * h + 15) c fit)),
+          );
+        }
+
+    -- it stayed: the spare is the head
+    pub seal-on : 0 < f′ → Seals B h k noise c f c′ f′ (On k)
+    unfolding did did-meant did-write
+    seal-on on =
+        record {
+          did = did;
+          right = λ c₀ n ix lit m full few.
+              let s : ℕ = fresh B h + k in
+              let v : Wrote (16 * h + 15) none (chipOf c) (chipOf c′) =
+              subst (λ (d : List ℕ). Wrote (16 * h + 15) none (chipOf c) (chipOf d)) (sym (write-stayed noise c c′ f f′ g (16 * h + 15) sealPage new u w on))
+              (wrote-seal noise (16 * h + 15) c fit) in
+              let q : s - fresh B h ≡ k = omega arith in (
+                on,
+                record {
+                  ready =
+                      subst (λ (y : ℕ). Ready B (chipOf c′) (spare B h) y (take n ix)) q
+                      (opening-ready B big h c₀ (chipOf c) (chipOf c′) s (m .opening) (v .page) (v .fills) few (take n ix) (m .rows));
+                  map = opening-map B big h c₀ (chipOf c) (chipOf c′) s (m .opening) (v .page) (v .fills);
+                  progress = λ b j K x.
+                      (K + (s - fresh B h), moved-open B b h c₀ (chipOf c) (chipOf c′) s j K (m .opening) (v .page) (v .fills) full x);
+                },
+                leads-seal B h c₀ (chipOf c) (chipOf c′) s sealPage v,
+              );
+        }
+
+-- ---- ONE STRETCH AFTER ANOTHER
+module _ (B n h : ℕ) (c₀ : Chip) (st st′ : State) (c′ ix′ : List ℕ) (f′ : ℕ) (os ps : List Op) where
+  opens-after : (r : Turn) → Leads B st st′ os → OpensBy B n h c₀ st′ c′ f′ ix′ ps r → OpensBy B n h c₀ st c′ f′ ix′ (os ++ ps) r
+  opens-after (On k) a q = (q .0, q .1, leads-then B a (q .2))
+  opens-after Dark a q = (q .0, leads-cut B a (q .1))
+  opens-after Dirty a q = q
+
+module _ (B n h : ℕ) (noise c ix : List ℕ) (f : ℕ) (d ix₁ : List ℕ) (g : ℕ) where
+  -- the places, then the seal
+  pub fills-sealed : (k : ℕ) (e : List ℕ) (l : ℕ) (r : Turn) → Turns B n h 0 15 0 noise c f ix d g ix₁ (On k) → Seals B h k noise d g e l r → Fills B n h noise c f ix e l ix₁ r
+  unfolding did-more did-then
+  fills-sealed k e l r x y =
+      record {
+        did = did-more (omega arith) (omega arith) (did-then (x .did) (y .did));
+        right = λ c₀ lit m full few.
+            let p = x .right c₀ lit m in
+            opens-after B n h c₀ (midway B c h c₀ 0 0) (midway B d h c₀ 15 k) e ix₁ l (x .did .ops) (y .did .ops) r (p .2) (y .right c₀ n ix₁ (p .0) (p .1) full few);
+      }
+
+  pub fills-dark : Turns B n h 0 15 0 noise c f ix d g ix₁ Dark → Fills B n h noise c f ix d g ix₁ Dark
+  unfolding did-more
+  fills-dark x = record { did = did-more (omega arith) (omega arith) (x .did); right = λ c₀ lit m full few. x .right c₀ lit m }
+
+  pub fills-dirty : Turns B n h 0 15 0 noise c f ix d g ix₁ Dirty → Fills B n h noise c f ix d g ix₁ Dirty
+  fills-dirty x = record { did = did-more (omega arith) (omega arith) (x .did); right = λ c₀ lit m full few. x .right c₀ lit m }
+
+module _ (B n h : ℕ) (noise c ix : List ℕ) (f : ℕ) (d : List ℕ) (g : ℕ) where
+  few-rows : Ready B (chipOf c) h 15 (take n ix) → length (table B (chipOf c)) ≤ room B
+  few-rows r = omega (arith, r .few, ap length (r .rows), pages-length B (table B (chipOf c)))
+
+  -- the beginning, then the places and the seal
+  pub opens-filled : (e ix₂ : List ℕ) (l : ℕ) (r : Turn) → Clears B h noise c f d g true → Fills B n h noise d g ix e l ix₂ r → Opens B n h noise c f ix e l ix₂ r
+  unfolding did-more did-then
+  opens-filled e ix₂ l r x y =
+      record {
+        did = did-more (omega arith) (omega arith) (did-then (x .did) (y .did));
+        right = λ lit z.
+            let p = x .right lit (z .ring) (sym (z .here)) in
+            opens-after B n h (chipOf c) (resting (chipOf c) h) (midway B d h (chipOf c) 0 0) e ix₂ l (x .did .ops) (y .did .ops) r (p .3)
+            (y .right (chipOf c) (p .0) (record { opening = p .1; rows = z .rows ∙ sym (p .2) }) (sym (z .here)) (few-rows z));
+      }
+
+  pub opens-dark : Clears B h noise c f d g false → Opens B n h noise c f ix d g ix Dark
+  unfolding did-more
+  opens-dark x = record { did = did-more (omega arith) (omega arith) (x .did); right = λ lit z. x .right lit (z .ring) (sym (z .here)) }
+
+-- ---- ROOM: the loop. After some openings `left` more are allowed
+module _ (B : ℕ) (big : 4 ≤ B) (n h x : ℕ) (noise c : List ℕ) (f : ℕ) (ix : List ℕ) where
+  pub record Going (d : List ℕ) (g : ℕ) (ix₁ : List ℕ) (k y left : ℕ) : Type 0 where
+    pub did : Did (B - 2 - left) (16 * (B - 2 - left)) noise c f d g
+    pub right : 0 < f → Ready B (chipOf c) h x (take n ix)
+        → RoomsBy B n h c d g ix₁ (did .ops) (Place k y) × ((K : ℕ) × Moved B big (chipOf d) k (B - 2 - left) K)
+
+  rested : Ready B (chipOf c) h x (take n ix) → length (table B (chipOf c)) ≤ room B
+  rested r = omega (arith, r .few, ap length (r .rows), pages-length B (table B (chipOf c)))
+
+  -- none yet
+  pub going-none : Going c f ix h x (B - 2)
+  unfolding did-more did-none
+  going-none =
+      record {
+        did = did-more (omega arith) (omega arith) (did-none c f);
+        right = λ lit r.
+            let z : 0 ≡ B - 2 - (B - 2) = omega arith in
+            ((lit, r, refl, leads-none B (resting (chipOf c) h)), (0, subst (λ (j : ℕ). Moved B big (chipOf c) h j 0) z (moved-start B big (chipOf c) h (rested r))));
+      }
+
+  -- the head by another name
+  pub going-at : (d ix₁ : List ℕ) (g k k′ y left : ℕ) → k ≡ k′ → Going d g ix₁ k y left → Going d g ix₁ k′ y left
+  going-at d ix₁ g k k′ y left e a = subst (λ (z : ℕ). Going d g ix₁ z y left) e a
+
+  -- one more; or the power went in it
+  module _ (d ix₁ : List ℕ) (g k y left : ℕ) (l : 0 < left) (m : left ≤ B - 2) (full : 15 ≤ y) (a : Going d g ix₁ k y left) where
+    at-full : 0 < f → Ready B (chipOf c) h x (take n ix) → y ≡ 15
+    at-full lit r = let q = a .right lit r in omega (arith, q .0 .1 .here, next-le (chipOf d) k 15)
+
+    pub going-on : (e ix₂ : List ℕ) (u v : ℕ) → Opens B n k noise d g ix₁ e u ix₂ (On v) → Going e u ix₂ (spare B k) v (left - 1)
+    unfolding did-more did-then
+    going-on e ix₂ u v b =
+        record {
+          did = did-more (omega arith) (omega arith) (did-then (a .did) (b .did));
+          right = λ lit r.
+              let q = a .right lit r in
+              let o = b .right (q .0 .0) (subst (λ (z : ℕ). Ready B (chipOf d) k z (take n ix₁)) (at-full lit r) (q .0 .1)) in
+              let j : suc (B - 2 - left) ≡ B - 2 - (left - 1) = omega arith in
+              let w = o .1 .progress big (B - 2 - left) (q .1 .0) (q .1 .1) in (
+                (o .0, o .1 .ready, o .1 .map ∙ q .0 .2, leads-then B (q .0 .3) (o .2)),
+                (w .0, subst (λ (z : ℕ). Moved B big (chipOf e) (spare B k) z (w .0)) j (w .1)),
+              );
+        }
+
+    pub going-dark : (e ix₂ : List ℕ) (u : ℕ) → Opens B n k noise d g ix₁ e u ix₂ Dark → Rooms B n h x noise c f ix e u ix₂ Gone
+    unfolding did-more did-then
+    going-dark e ix₂ u b =
+        record {
+          did = did-more (omega arith) (omega arith) (did-then (a .did) (b .did));
+          right = λ lit r.
+              let q = a .right lit r in
+              let o = b .right (q .0 .0) (subst (λ (z : ℕ). Ready B (chipOf d) k z (take n ix₁)) (at-full lit r) (q .0 .1)) in
+              (o .0, leads-cut B (q .0 .3) (o .1));
+        }
+
+    pub going-dirty : (e ix₂ : List ℕ) (u : ℕ) → Opens B n k noise d g ix₁ e u ix₂ Dirty → Rooms B n h x noise c f ix e u ix₂ Stuck
+    going-dirty e ix₂ u b =
+        record {
+          did = did-more (omega arith) (omega arith) (did-then (a .did) (b .did));
+          right = λ lit r.
+              let q = a .right lit r in
+              b .right (q .0 .0) (subst (λ (z : ℕ). Ready B (chipOf d) k z (take n ix₁)) (at-full lit r) (q .0 .1));
+        }
+
+  module _ (d ix₁ : List ℕ) (g k y left : ℕ) (m : left ≤ B - 2) (a : Going d g ix₁ k y left) where
+    -- there is room
+    pub room-found : Rooms B n h x noise c f ix d g ix₁ (Place k y)
+    unfolding did-more
+    room-found = record { did = did-more (omega arith) (omega arith) (a .did); right = λ lit r. a .right lit r .0 }
+
+    -- there is none after all: that can't be, since no value is moved twice
+    pub room-none : left ≡ 0 → 15 ≤ y → Rooms B n h x noise c f ix d g ix₁ Stuck
+    room-none z full =
+        record {
+          did = did-more (omega arith) (omega arith) (a .did);
+          right = λ lit r.
+              let q = a .right lit r in
+              let w : y ≡ 15 = omega (arith, q .0 .1 .here, next-le (chipOf d) k 15) in
+              omega (arith, moved-few B big (chipOf d) k (B - 2 - left) (q .1 .0) (q .1 .1) (sym (q .0 .1 .here) ∙ w));
+        }

@@ -1,0 +1,83 @@
+-- Count and get: what the area says, and the answers of document 01. Assumes nothing.
+use mathlib.Core.Path.{_≡_, refl, sym, ap, _∙_, subst}
+use mathlib.Core.List.{List, []}
+use Prim.Native.Nat.{ℕ, zero, suc, _-_, _<_}
+use native.Mathlib.Omega.{arith}
+use lib.ListN.{length, take, drop, getD, length-drop}
+use lib.Seq.{length-take-le, take-all}
+use borrow.Rule.Slice.PartMut.{midOf}
+use Rattle.log.specs.Map.{lookup}
+use Rattle.log.specs.Log.{Placed}
+use Rattle.log.specs.Ring.{chipOf, table, mapOf}
+use Rattle.log.specs.Answers.{lent, refused, done, countAnswer, gotten, getAnswer}
+use Rattle.log.specs.Answers.{Answer as Says}
+use Rattle.log.proofs.MapMore.{length-mapV}
+use Rattle.log.proofs.Index.{pages-length}
+use Rattle.store.specs.Ends.{blocksOf, Sized, Checked}
+use Rattle.store.specs.Calls.{mapIn, lentOf, Holds, Kept, lentNumber, keyNumber, due, Tested, Counts, Gets}
+use Rattle.store.specs.Reads.{Fetches}
+use Rattle.store.proofs.Numbers.{lent-due, keyed-only}
+use Rattle.store.specs.declared.Answer.{Answer}
+use Rattle.store.specs.declared.Answer.the-variants.{Done, Refused}
+
+-- the index in the area has as many entries as its words say
+pub index-length : (c w : List ℕ) → Sized c w → Holds c w → length (take (getD w 3 0) (drop 16 w)) ≡ getD w 3 0
+index-length c w s h = length-take-le (getD w 3 0) (drop 16 w) (omega (arith, h .few, s .long, length-drop 16 w))
+
+-- the map has as many keys as the table
+pub map-length : (c : List ℕ) → length (mapIn c) ≡ length (table (blocksOf c) (chipOf c))
+unfolding mapOf
+map-length c = length-mapV (λ (a : Placed). a .1) (table (blocksOf c) (chipOf c))
+
+-- and as the area says
+pub map-count : (c w : List ℕ) → Sized c w → Holds c w → length (mapIn c) ≡ getD w 3 0
+map-count c w s h =
+    map-length c ∙ sym (pages-length (blocksOf c) (table (blocksOf c) (chipOf c))) ∙ ap length (sym (h .ready .rows)) ∙ index-length c w s h
+
+-- a number above 0 is answered as a refusal
+pub due-refused : {A : Type 0} (k : ℕ) (a : Says A) → 0 < k → due k a ≡ refused k
+due-refused zero a l = absurd (omega arith)
+due-refused (suc k) a l = refl
+
+-- ---- COUNT
+module _ (c : List ℕ) (f : ℕ) (w : List ℕ) where
+  count-due : countAnswer (lentOf c f w) (mapIn c) ≡ due (lentNumber (lentOf c f w) 0) (done (length (mapIn c)))
+  count-due = lent-due (lentOf c f w) 0 (done (length (mapIn c)))
+
+  pub count-refused : (k : ℕ) → 0 < k → Tested c f w 0 k → Kept c f w → Counts (countAnswer (lentOf c f w) (mapIn c)) (Refused k)
+  count-refused k l t h =
+      subst (λ (s : Says ℕ). Counts s (Refused k)) (sym (count-due ∙ ap (λ (n : ℕ). due n (done (length (mapIn c)))) (sym (t .due h)) ∙ due-refused k _ l)) (record { ends = refl })
+
+  pub count-done : (k n : ℕ) → k ≡ 0 → Tested c f w 0 k → n ≡ getD w 3 0 → Kept c f w → Counts (countAnswer (lentOf c f w) (mapIn c)) (Done n)
+  count-done k n z t e h =
+      let a : Says ℕ = done (length (mapIn c)) in
+      let s : Sized c w = t .checked z .sized in
+      let m : length (mapIn c) ≡ n = map-count c w s (h .holds s (t .lit z) (t .marked z)) ∙ sym e in
+      subst (λ (x : Says ℕ). Counts x (Done n))
+      (sym (count-due ∙ ap (λ (i : ℕ). due i a) (sym (t .due h) ∙ z))) (record { ends = ap (λ (i : ℕ). Done i) (sym m) })
+
+-- ---- GET
+module _ (c : List ℕ) (f : ℕ) (w key b b′ : List ℕ) where
+  get-due : getAnswer (lentOf c f w) key b (mapIn c) ≡ due (lentNumber (lentOf c f w) (keyNumber key [])) (gotten b (lookup key (mapIn c)))
+  get-due =
+      ap (lent (lentOf c f w)) (keyed-only key (gotten b (lookup key (mapIn c)))) ∙ lent-due (lentOf c f w) (keyNumber key []) (gotten b (lookup key (mapIn c)))
+
+  module _ (k : ℕ) (t : Tested c f w (keyNumber key []) k) (h : Kept c f w) where
+    get-number : lentNumber (lentOf c f w) (keyNumber key []) ≡ k
+    get-number = sym (t .due h)
+
+    pub get-refused : 0 < k → Gets b b (getAnswer (lentOf c f w) key b (mapIn c)) (Refused k)
+    get-refused l =
+        subst (λ (s : Says (ℕ × List ℕ)). Gets b b s (Refused k))
+        (sym (get-due ∙ ap (λ (n : ℕ). due n (gotten b (lookup key (mapIn c)))) get-number ∙ due-refused k _ l)) (record { ends = (refl, refl) })
+
+    -- the index is the part of the area from word 16 on
+    pub get-fetched : (n : ℕ) (r : Answer) → k ≡ 0 → n ≡ getD w 3 0 → Fetches c (take n (midOf 16 (length w - 16) w)) key b b′ r
+        → Gets b b′ (getAnswer (lentOf c f w) key b (mapIn c)) r
+    get-fetched n r z e g =
+        let s : Checked c w = t .checked z in
+        let rest : midOf 16 (length w - 16) w ≡ drop 16 w = take-all (length w - 16) (drop 16 w) (omega (arith, length-drop 16 w)) in
+        subst (λ (x : Says (ℕ × List ℕ)). Gets b b′ x r)
+        (sym (get-due ∙ ap (λ (i : ℕ). due i (gotten b (lookup key (mapIn c)))) (get-number ∙ z)))
+        (g .right (s .sized .some-blocks) (s .sized .whole)
+        (ap (take n) rest ∙ ap (λ (i : ℕ). take i (drop 16 w)) e ∙ h .holds (s .sized) (t .lit z) (t .marked z) .ready .rows))

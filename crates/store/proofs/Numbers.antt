@@ -1,0 +1,177 @@
+-- The refusals that need no search, as numbers: what the code tests, and what the answers of document 01 say. Assumes nothing.
+use mathlib.Core.Path.{_≡_, refl, sym, _∙_}
+use mathlib.Core.Logic.{_≢_}
+use mathlib.Core.List.{List, []}
+use mathlib.Core.Bool.{Bool, true, false, not, _&&_, _||_}
+use Prim.Native.Nat.{ℕ, _+_, _*_, _/_, _%_, _≤_, _<_}
+use native.Mathlib.Omega.{arith}
+use lib.Dec.{eqb, leb}
+use lib.ListN.{length, getD}
+use borrow.Author.Tests.{eq-eqb, ne-eqb, le-leb, lt-leb, leb-true, eqb-true}
+use Rattle.page.proofs.All.{and-left, and-right}
+use Rattle.log.specs.Ring.{chipOf}
+use Rattle.log.specs.Answers.{Lent, refuse, lent, keyed}
+use Rattle.log.specs.Answers.{Answer as Says}
+use Rattle.log.proofs.RingLaws.{next-le}
+use Rattle.store.specs.Ends.{blocksOf, Sized, Checked, Keyed}
+use Rattle.store.specs.Calls.{mark, lentOf, Holds, number, lentNumber, keyNumber, due, Tested}
+use Rattle.store.specs.Reads.{sizesTest}
+
+-- ---- the lengths
+
+-- the four tests hold where the test does
+sizes-all : (c w : ℕ) → sizesTest c w ≡ true → (c % 4096 ≡ 0) × (4 ≤ c / 4096) × (c / 4096 ≤ 2048) × (16 * (c / 4096) + 16 ≤ w)
+sizes-all c w e =
+    let abc = and-left (eqb (c % 4096) 0 && leb 4 (c / 4096) && leb (c / 4096) 2048) _ e in
+    let ab = and-left (eqb (c % 4096) 0 && leb 4 (c / 4096)) _ abc in (
+      eqb-true _ _ (and-left (eqb (c % 4096) 0) _ ab),
+      leb-true _ _ (and-right (eqb (c % 4096) 0) _ ab),
+      leb-true _ _ (and-right (eqb (c % 4096) 0 && leb 4 (c / 4096)) _ abc),
+      leb-true _ _ (and-right (eqb (c % 4096) 0 && leb 4 (c / 4096) && leb (c / 4096) 2048) _ e),
+    )
+
+-- one of the tests fails
+pub sizes-fail : (c w : ℕ) → (c % 4096 ≡ 0 → 4 ≤ c / 4096 → c / 4096 ≤ 2048 → 16 * (c / 4096) + 16 ≤ w → ⊥) → sizesTest c w ≡ false
+sizes-fail c w none = go (sizesTest c w) refl
+  where
+    go : (t : Bool) → sizesTest c w ≡ t → t ≡ false
+    go false e = refl
+    go true e = let s = sizes-all c w e in absurd (none (s .0) (s .1) (s .2) (s .3))
+
+-- all hold
+pub sizes-hold : (c w : List ℕ) → Sized c w → sizesTest (length c) (length w) ≡ true
+sizes-hold c w s =
+    let z : length c % 4096 ≡ 0 = omega (arith, s .whole) in
+    rw (eq-eqb (length c % 4096) 0 z, le-leb 4 (blocksOf c) (s .some-blocks), le-leb (blocksOf c) 2048 (s .few-blocks), le-leb (16 * blocksOf c + 16) (length w) (s .long))
+
+-- ---- WHAT IS LENT
+module _ (c : List ℕ) (f : ℕ) (w : List ℕ) (n : ℕ) where
+  -- the number by the tests
+  by-tests : (t a b r : Bool) → sizesTest (length c) (length w) ≡ t → eqb f 0 ≡ a → eqb (mark w) 2 ≡ b → eqb (mark w) 1 ≡ r
+      → lentNumber (lentOf c f w) n ≡ number 5 (not t) (number 7 (a || b) (number 8 (not r) n))
+  by-tests t a b r p q u v = rw (p, q, u, v)
+
+  due-5 : sizesTest (length c) (length w) ≡ false → 5 ≡ lentNumber (lentOf c f w) n
+  due-5 p = sym (by-tests false _ _ _ p refl refl refl)
+
+  due-7-off : Sized c w → f ≡ 0 → 7 ≡ lentNumber (lentOf c f w) n
+  due-7-off s p = sym (by-tests true true _ _ (sizes-hold c w s) (eq-eqb f 0 p) refl refl)
+
+  due-7-gone : Sized c w → 0 < f → mark w ≡ 2 → 7 ≡ lentNumber (lentOf c f w) n
+  due-7-gone s p q = sym (by-tests true false true _ (sizes-hold c w s) (ne-eqb f 0 (λ e. omega arith)) (eq-eqb (mark w) 2 q) refl)
+
+  due-8 : Sized c w → 0 < f → mark w ≢ 2 → mark w ≢ 1 → 8 ≡ lentNumber (lentOf c f w) n
+  due-8 s p q r = sym (by-tests true false false false (sizes-hold c w s) (ne-eqb f 0 (λ e. omega arith)) (ne-eqb (mark w) 2 q) (ne-eqb (mark w) 1 r))
+
+  due-none : Sized c w → 0 < f → mark w ≡ 1 → n ≡ lentNumber (lentOf c f w) n
+  due-none s p q = sym (by-tests true false false true (sizes-hold c w s) (ne-eqb f 0 (λ e. omega arith)) (ne-eqb (mark w) 2 (λ e. omega arith)) (eq-eqb (mark w) 1 q))
+
+  -- a refusal that is due
+  tested-due : (k : ℕ) → 0 < k → k ≡ lentNumber (lentOf c f w) n → Tested c f w n k
+  tested-due k l e = record { lit = λ z. absurd (omega arith); marked = λ z. absurd (omega arith); checked = λ z. absurd (omega arith); due = λ _. e }
+
+  pub tested-5 : sizesTest (length c) (length w) ≡ false → Tested c f w n 5
+  tested-5 p = tested-due 5 (omega arith) (due-5 p)
+
+  pub tested-off : Sized c w → f ≡ 0 → Tested c f w n 7
+  tested-off s p = tested-due 7 (omega arith) (due-7-off s p)
+
+  pub tested-gone : Sized c w → 0 < f → mark w ≡ 2 → Tested c f w n 7
+  tested-gone s p q = tested-due 7 (omega arith) (due-7-gone s p q)
+
+  pub tested-8 : Sized c w → 0 < f → mark w ≢ 2 → mark w ≢ 1 → Tested c f w n 8
+  tested-8 s p q r = tested-due 8 (omega arith) (due-8 s p q r)
+
+  -- none is
+  pub tested-none : Checked c w → 0 < f → mark w ≡ 1 → Tested c f w n n
+  tested-none h p q = record { lit = λ _. p; marked = λ _. q; checked = λ _. h; due = λ _. due-none (h .sized) p q }
+
+  -- one that an area of this store never comes to
+  pub tested-never : (k : ℕ) → 0 < k → Sized c w → 0 < f → mark w ≡ 1 → (Holds c w → ⊥) → Tested c f w n k
+  tested-never k l s p q none =
+      record {
+        lit = λ z. absurd (omega arith);
+        marked = λ z. absurd (omega arith);
+        checked = λ z. absurd (omega arith);
+        due = λ h. absurd (none (h .holds s p q));
+      }
+
+  -- none is due, and the number after it is answered
+  pub tested-next : (k r : ℕ) → k ≡ 0 → Tested c f w 0 k → r ≡ n → Tested c f w n r
+  tested-next k r z t e =
+      record {
+        lit = λ _. t .lit z;
+        marked = λ _. t .marked z;
+        checked = λ _. t .checked z;
+        due = λ _. e ∙ due-none (t .checked z .sized) (t .lit z) (t .marked z);
+      }
+
+  -- a refusal of what is lent is due whatever would come after it
+  pub tested-first : (k : ℕ) → 0 < k → Tested c f w 0 k → Tested c f w n k
+  tested-first k l t =
+      record {
+        lit = λ z. absurd (omega arith);
+        marked = λ z. absurd (omega arith);
+        checked = λ z. absurd (omega arith);
+        due = λ h. go (sizesTest (length c) (length w)) (eqb f 0 || eqb (mark w) 2) (eqb (mark w) 1) (t .due h);
+      }
+    where
+      go : (x y z : Bool) → k ≡ number 5 (not x) (number 7 y (number 8 (not z) 0)) → k ≡ number 5 (not x) (number 7 y (number 8 (not z) n))
+      go false y z e = e
+      go true true z e = e
+      go true false false e = e
+      go true false true e = absurd (omega arith)
+
+-- what an area that holds says of its words
+pub holds-head : (c w : List ℕ) → Holds c w → getD w 1 0 < blocksOf c
+holds-head c w h = h .ready .ring .inside
+
+pub holds-next : (c w : List ℕ) → Holds c w → getD w 2 0 ≤ 15
+holds-next c w h = omega (arith, h .ready .here, next-le (chipOf c) (getD w 1 0) 15)
+
+-- ---- KEY AND VALUE
+module _ (k v : List ℕ) where
+  by-lengths : (a b t : Bool) → eqb (length k) 0 ≡ a → leb 17 (length k) ≡ b → leb 97 (length v) ≡ t → keyNumber k v ≡ number 1 (a || b) (number 2 t 0)
+  by-lengths a b t p q u = rw (p, q, u)
+
+  pub key-none : length k ≡ 0 → 1 ≡ keyNumber k v
+  key-none p = sym (by-lengths true _ _ (eq-eqb (length k) 0 p) refl refl)
+
+  pub key-long : 0 < length k → 16 < length k → 1 ≡ keyNumber k v
+  key-long p q = sym (by-lengths false true _ (ne-eqb (length k) 0 (λ e. omega arith)) (le-leb 17 (length k) (omega arith)) refl)
+
+  pub value-long : 0 < length k → length k ≤ 16 → 96 < length v → 2 ≡ keyNumber k v
+  value-long p q l = sym (by-lengths false false true (ne-eqb (length k) 0 (λ e. omega arith)) (lt-leb 17 (length k) (omega arith)) (le-leb 97 (length v) (omega arith)))
+
+  pub key-good : Keyed k v → 0 ≡ keyNumber k v
+  key-good p =
+      sym (by-lengths false false false (ne-eqb (length k) 0 (λ e. omega (arith, p .some-key))) (lt-leb 17 (length k) (omega (arith, p .short-key))) (lt-leb 97 (length v) (omega (arith, p .short-value))))
+
+-- ---- THE ANSWERS OF DOCUMENT 01, by the number that is due
+module _ {A : Type 0} where
+  pub lent-due : (l : Lent) (n : ℕ) (a : Says A) → lent l (due n a) ≡ due (lentNumber l n) a
+  unfolding refuse
+  lent-due l n a = go (sizesTest (l .chip) (l .work)) (l .dark) (l .ready)
+    where
+      go : (x y z : Bool) → refuse 5 (not x) (refuse 7 y (refuse 8 (not z) (due n a))) ≡ due (number 5 (not x) (number 7 y (number 8 (not z) n))) a
+      go false y z = refl
+      go true true z = refl
+      go true false false = refl
+      go true false true = refl
+
+  pub keyed-due : (k v : List ℕ) (a : Says A) → keyed k (refuse 2 (leb 97 (length v)) a) ≡ due (keyNumber k v) a
+  unfolding refuse
+  keyed-due k v a = go (eqb (length k) 0 || leb 17 (length k)) (leb 97 (length v))
+    where
+      go : (x y : Bool) → refuse 1 x (refuse 2 y a) ≡ due (number 1 x (number 2 y 0)) a
+      go true y = refl
+      go false true = refl
+      go false false = refl
+
+  pub keyed-only : (k : List ℕ) (a : Says A) → keyed k a ≡ due (keyNumber k []) a
+  unfolding refuse
+  keyed-only k a = go (eqb (length k) 0 || leb 17 (length k))
+    where
+      go : (x : Bool) → refuse 1 x a ≡ due (number 1 x (number 2 false 0)) a
+      go true = refl
+      go false = refl
