@@ -1,0 +1,110 @@
+// The store for C (include/floatstore.h): the six calls, with answers as numbers. At least 0: done; below: minus the number of the refusal.
+// Each contract is that of the store's call, of the answer whose number is answered; specs/Numbers.antt says which number that is.
+use store::Answer;
+ghost use mathlib.Core.Path.{_≡_};
+ghost use Rattle.chip.specs.Play.{Did};
+ghost use Rattle.store.specs.Ends.{blocksOf, Got};
+ghost use Rattle.store.specs.Reads.{Counted};
+ghost use Rattle.store.specs.Calls.{PutEnds, DeleteEnds, GetEnds, CountEnds, StartEnds, FormatEnds};
+ghost use Rattle.floatstore.specs.Numbers.{numberOf, held, Answers};
+ghost use lib.IntN.{pos, negℤ};
+
+// A number that an i64 holds.
+fn hold(n: usize) -> i64
+    ensures { λ r. ⌜ r ≡ pos (held n) ⌝ }
+{
+    if n < 9223372036854775808 {
+        return n as i64;
+    }
+    9223372036854775807
+}
+
+// Minus the number of a refusal.
+fn minus(k: u32) -> i64
+    ensures { λ r. ⌜ r ≡ negℤ (pos k) ⌝ }
+{
+    -(k as i64)
+}
+
+// The number of an answer.
+fn number(a: Answer) -> i64
+    ensures { λ r. ⌜ r ≡ numberOf a ⌝ }
+{
+    match a {
+        Answer::Done(n) => hold(n),
+        Answer::Refused(k) => minus(k),
+    }
+}
+
+// Erases every block; the map is empty. A start must follow it.
+#[no_mangle]
+pub extern "C" fn floatstore_format(
+    chip: &mut [u8],
+    work: &mut [u32],
+    fuse: &mut u64,
+    noise: &[u8; 4096],
+) -> i64
+    ensures did { λ r. ⌜ Did (blocksOf (now (chip .entry))) 0 (now (noise .entry)) (now (chip .entry)) (now (fuse .entry)) (now (chip .exit)) (now (fuse .exit)) ⌝ }
+    ensures right { λ r. ⌜ Answers (FormatEnds (now (chip .entry)) (now (fuse .entry)) (now (work .entry)) (now (chip .exit)) (now (fuse .exit)) (now (work .exit))) r ⌝ }
+{
+    number(store::format(chip, work, fuse, noise))
+}
+
+// Reads the chip and makes the store ready; the map is the one that was there. It writes nothing to the chip.
+#[no_mangle]
+pub extern "C" fn floatstore_start(chip: &[u8], work: &mut [u32], fuse: &u64) -> i64
+    ensures { λ r. ⌜ Answers (StartEnds (now (chip .entry)) (now (fuse .entry)) (now (work .entry)) (now (work .exit))) r ⌝ }
+{
+    number(store::start(chip, work, fuse))
+}
+
+// The key has the value from now on, whether or not it had one.
+#[no_mangle]
+pub extern "C" fn floatstore_put(
+    chip: &mut [u8],
+    work: &mut [u32],
+    fuse: &mut u64,
+    noise: &[u8; 4096],
+    key: &[u8],
+    value: &[u8],
+) -> i64
+    ensures { λ r. ⌜ Answers (PutEnds (now (noise .entry)) (now (chip .entry)) (now (fuse .entry)) (now (work .entry)) (now (key .entry)) (now (value .entry)) (now (chip .exit)) (now (fuse .exit)) (now (work .exit))) r ⌝ }
+{
+    number(store::put(chip, work, fuse, noise, key, value))
+}
+
+// The value's length; the value stands at the start of the buffer, and the rest of the buffer is unchanged.
+#[no_mangle]
+pub extern "C" fn floatstore_get(
+    chip: &[u8],
+    work: &[u32],
+    fuse: &u64,
+    key: &[u8],
+    buffer: &mut [u8],
+) -> i64
+    ensures { λ r. ⌜ Answers (λ a. Got (now (buffer .entry)) (now (buffer .exit)) a × GetEnds (now (chip .entry)) (now (fuse .entry)) (now (work .entry)) (now (key .entry)) (now (buffer .entry)) (now (buffer .exit)) a) r ⌝ }
+{
+    number(store::get(chip, work, fuse, key, buffer))
+}
+
+// The key has no value any more.
+#[no_mangle]
+pub extern "C" fn floatstore_delete(
+    chip: &mut [u8],
+    work: &mut [u32],
+    fuse: &mut u64,
+    noise: &[u8; 4096],
+    key: &[u8],
+) -> i64
+    ensures { λ r. ⌜ Answers (DeleteEnds (now (noise .entry)) (now (chip .entry)) (now (fuse .entry)) (now (work .entry)) (now (key .entry)) (now (chip .exit)) (now (fuse .exit)) (now (work .exit))) r ⌝ }
+{
+    number(store::delete(chip, work, fuse, noise, key))
+}
+
+// How many keys have a value.
+#[no_mangle]
+pub extern "C" fn floatstore_count(chip: &[u8], work: &[u32], fuse: &u64) -> i64
+    ensures { λ r. ⌜ Answers (λ a. Counted (now (work .entry)) a × CountEnds (now (chip .entry)) (now (fuse .entry)) (now (work .entry)) a) r ⌝ }
+{
+    number(store::count(chip, work, fuse))
+}

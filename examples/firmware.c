@@ -1,0 +1,78 @@
+/* A page of firmware to copy: settings and measurements of a float, and the power failing under a put.
+ * On a float `chip` is the memory-mapped flash behind your driver; here it is an array, and the fault script plays the failure. */
+#include <floatstore.h>
+#include <inttypes.h>
+#include <stdio.h>
+#include <string.h>
+
+#define BLOCKS 16
+
+static uint8_t chip[FLOATSTORE_CHIP_LEN(BLOCKS)];
+static uint32_t work[FLOATSTORE_WORK_LEN(BLOCKS)];
+static uint8_t noise[FLOATSTORE_NOISE];
+static uint64_t fuse = FLOATSTORE_NO_FAULT;
+
+/* The five calls of a life, with what is always lent written once. */
+static int64_t start(void) { return floatstore_start(chip, sizeof chip, work, FLOATSTORE_WORK_LEN(BLOCKS), &fuse); }
+static int64_t put(const char *key, const void *value, size_t len) {
+    return floatstore_put(chip, sizeof chip, work, FLOATSTORE_WORK_LEN(BLOCKS), &fuse, noise, (const uint8_t *)key, strlen(key), value, len);
+}
+static int64_t get(const char *key, void *buffer, size_t len) {
+    return floatstore_get(chip, sizeof chip, work, FLOATSTORE_WORK_LEN(BLOCKS), &fuse, (const uint8_t *)key, strlen(key), buffer, len);
+}
+static int64_t del(const char *key) {
+    return floatstore_delete(chip, sizeof chip, work, FLOATSTORE_WORK_LEN(BLOCKS), &fuse, noise, (const uint8_t *)key, strlen(key));
+}
+static int64_t count(void) { return floatstore_count(chip, sizeof chip, work, FLOATSTORE_WORK_LEN(BLOCKS), &fuse); }
+
+/* After a reset: start, and nothing else. Only a chip that isn't this store's answers -8: format it in the workshop. */
+static int boot(void) {
+    int64_t answer = start();
+    if (answer < 0) printf("start is refused: %" PRId64 "\n", -answer);
+    return answer >= 0;
+}
+
+/* A dive: settings are read, measurements kept under a key each until they have been sent. */
+static int dive(int number) {
+    char key[FLOATSTORE_MAX_KEY + 1];
+    int32_t depth = 1000, salinity[24];
+    if (get("park.depth", &depth, sizeof depth) == -FLOATSTORE_NO_VALUE) printf("dive %d: no setting yet, parking at %" PRId32 " m\n", number, depth);
+    for (int i = 0; i < 24; i++) salinity[i] = 35000 + 7 * i + number;
+    snprintf(key, sizeof key, "sal.%d", number);
+    return put(key, salinity, sizeof salinity) >= 0;
+}
+
+/* The surface: everything is sent, then forgotten. */
+static int surface(int first, int last) {
+    for (int i = first; i <= last; i++) {
+        char key[FLOATSTORE_MAX_KEY + 1];
+        uint8_t value[FLOATSTORE_MAX_VALUE];
+        snprintf(key, sizeof key, "sal.%d", i);
+        int64_t len = get(key, value, sizeof value);
+        if (len < 0) return 0;
+        printf("sent %s, %" PRId64 " bytes\n", key, len);
+        if (del(key) < 0) return 0;
+    }
+    return 1;
+}
+
+int main(void) {
+    memset(chip, 0xFF, sizeof chip); /* as it comes from the maker: blank, and so a store with an empty map */
+    int32_t depth = 1500, before = 0;
+    if (!boot() || !dive(1) || put("park.depth", &depth, sizeof depth) < 0 || !dive(2)) return 1;
+
+    /* The pump starts, and the voltage drops in the middle of a page write: some bits are left as they were. */
+    memset(noise, 0x24, sizeof noise);
+    fuse = 1;
+    depth = 2000;
+    printf("put under a power failure answers %" PRId64 "\n", put("park.depth", &depth, sizeof depth));
+    printf("and every call after it too: %" PRId64 "\n", count());
+
+    /* Power again: the processor boots, and the map is the one before that put or the one after it. */
+    fuse = FLOATSTORE_NO_FAULT;
+    if (!boot() || get("park.depth", &before, sizeof before) != sizeof before) return 1;
+    printf("after the start the depth is %" PRId32 ", one of 1500 and 2000\n", before);
+    if (put("park.depth", &depth, sizeof depth) < 0 || !surface(1, 2)) return 1;
+    printf("%" PRId64 " key has a value\n", count());
+    return before == 1500 || before == 2000 ? 0 : 1;
+}

@@ -1,0 +1,100 @@
+/* floatstore.h: a key-value store on a flash chip, safe against power failures. For C firmware.
+ *
+ * To its caller the store is a map: a key of 1 to 16 bytes has a value of 0 to 96 bytes, or none. Whatever a call was
+ * doing when the power failed, after the next floatstore_start the map is the one before that call or the one after it.
+ * The library behind this header, libfloatstore.a, is proved: docs/STATEMENTS.md says sentence by sentence what.
+ *
+ * WHAT YOU LEND. The store has no memory of its own and calls nothing: no malloc, no clock, no interrupts.
+ *   chip   the chip's bytes, chip_len = FLOATSTORE_CHIP_LEN(B) for B blocks, FLOATSTORE_MIN_BLOCKS <= B <= FLOATSTORE_MAX_BLOCKS.
+ *          A blank chip (all bytes 0xFF) is a store with an empty map; nothing has to be written before its first start.
+ *   work   memory for the store's index, work_len = FLOATSTORE_WORK_LEN(B) WORDS of 32 bits or more. Its content means nothing
+ *          before a start, and is the store's from then on: lend the same words, unchanged, to each call until the next start.
+ *   fuse   the fault script, one number; see below. On a float: let it point to UINT64_MAX and forget it.
+ *   noise  4,096 bytes, looked at only when the script cuts an operation. On a float: any 4,096 bytes.
+ * No two of the areas may overlap, and each pointer must be valid for its length; C can't check that, and neither can the
+ * library. A pointer with a length of 0 must still not be null. Nothing else is asked of a caller: any lengths, any bytes on
+ * the chip, any bytes in the work area are answered, with a refusal where they make no sense.
+ *
+ * WHAT A CALL ANSWERS. At least 0: it is done (get: the value's length; count: the number of keys; the others: 0).
+ * Below 0: refused, minus a number of enum floatstore_refusal; of several that apply, the first of the order 5, 7, 8, 1, 2, 4, 6, 3.
+ * A call refused with 1 to 6 has changed nothing.
+ *
+ * WHAT A POWER FAILURE LOOKS LIKE. The call that was under way answers -7, and so does every later call until a start. Of that
+ * call you know after the start: its put or delete happened whole, or not at all. Ask with floatstore_get if it matters.
+ * On a real float the processor goes with the chip, nobody sees the -7, and life goes on at floatstore_start after the reboot.
+ *
+ * THE FAULT SCRIPT lets your tests play it: *fuse counts the erases and page writes to come.
+ *   0            the power is gone: every call answers -7
+ *   1            the next erase or page write is cut short; bits that it was to change keep or lose their old state as noise says
+ *                (a cut write leaves new | noise, a cut erase old | noise), and *fuse becomes 0
+ *   more         it is one less after each erase and each page write
+ *   UINT64_MAX   no failure within anyone's lifetime
+ * After a cut, set *fuse anew and call floatstore_start.
+ *
+ * WHAT A CALL COSTS AT MOST. On a ready store with B blocks: put and delete 8(B-2)/15 + 1 erases and 8(B-2) + B page writes;
+ * start, get and count none; format B erases. Over a life with n puts and deletes and q power failures: n/7 + q erases, and
+ * any two blocks' erases differ by at most 1 + q.
+ */
+#ifndef FLOATSTORE_H
+#define FLOATSTORE_H
+
+#include <stddef.h>
+#include <stdint.h>
+
+#ifdef __cplusplus
+extern "C" {
+#endif
+
+#define FLOATSTORE_PAGE 256u /* bytes of a page */
+#define FLOATSTORE_BLOCK 4096u /* bytes of a block: 16 pages */
+#define FLOATSTORE_NOISE 4096u /* bytes of noise */
+#define FLOATSTORE_MIN_BLOCKS 4u
+#define FLOATSTORE_MAX_BLOCKS 2048u
+#define FLOATSTORE_MAX_KEY 16u /* bytes of a key, at least 1 */
+#define FLOATSTORE_MAX_VALUE 96u /* bytes of a value, 0 and more: a buffer of so many is long enough for every get */
+
+#define FLOATSTORE_CHIP_LEN(B) ((size_t)4096 * (size_t)(B)) /* bytes */
+#define FLOATSTORE_WORK_LEN(B) ((size_t)16 * (size_t)(B) + 16) /* words of 32 bits */
+#define FLOATSTORE_ROOM(B) ((size_t)8 * ((size_t)(B) - 2)) /* keys that the store holds */
+
+#define FLOATSTORE_NO_FAULT UINT64_MAX /* for *fuse */
+
+/* A call that is refused answers minus one of these. */
+enum floatstore_refusal {
+    FLOATSTORE_BAD_KEY = 1, /* the key's length is 0 or above 16 */
+    FLOATSTORE_LONG_VALUE = 2, /* put: the value is longer than 96 */
+    FLOATSTORE_NO_ROOM = 3, /* put: the key has no value yet, and the map has 8(B-2) keys already */
+    FLOATSTORE_NO_VALUE = 4, /* get, delete: the key has no value */
+    FLOATSTORE_BAD_SIZE = 5, /* chip_len isn't 4,096 B for an allowed B, or the work area is too short */
+    FLOATSTORE_SHORT_BUFFER = 6, /* get: the buffer is shorter than the value, and was left unchanged */
+    FLOATSTORE_POWER_GONE = 7, /* the power has gone since the last start */
+    FLOATSTORE_NOT_STARTED = 8, /* start: these bytes are no store; other calls: no start has succeeded since */
+    FLOATSTORE_NUMBERS_OUT = 9 /* numbers have run out: this design has none, so it is never answered */
+};
+
+/* Erases every block; the map is empty. For the workshop: a start must follow, also where it was cut short. */
+int64_t floatstore_format(uint8_t *chip, size_t chip_len, uint32_t *work, size_t work_len, uint64_t *fuse, const uint8_t *noise);
+
+/* Reads the chip and makes the store ready; the map is the one that was there. It writes nothing to the chip, so it can't be cut. */
+int64_t floatstore_start(const uint8_t *chip, size_t chip_len, uint32_t *work, size_t work_len, const uint64_t *fuse);
+
+/* The key has this value from now on, whether or not it had one. */
+int64_t floatstore_put(uint8_t *chip, size_t chip_len, uint32_t *work, size_t work_len, uint64_t *fuse, const uint8_t *noise,
+                       const uint8_t *key, size_t key_len, const uint8_t *value, size_t value_len);
+
+/* The value's length; the value stands at the start of the buffer, and the rest of the buffer is unchanged. */
+int64_t floatstore_get(const uint8_t *chip, size_t chip_len, const uint32_t *work, size_t work_len, const uint64_t *fuse,
+                       const uint8_t *key, size_t key_len, uint8_t *buffer, size_t buffer_len);
+
+/* The key has no value any more. */
+int64_t floatstore_delete(uint8_t *chip, size_t chip_len, uint32_t *work, size_t work_len, uint64_t *fuse, const uint8_t *noise,
+                          const uint8_t *key, size_t key_len);
+
+/* How many keys have a value. */
+int64_t floatstore_count(const uint8_t *chip, size_t chip_len, const uint32_t *work, size_t work_len, const uint64_t *fuse);
+
+#ifdef __cplusplus
+}
+#endif
+
+#endif

@@ -1,0 +1,199 @@
+/* The six calls from C: both sides of each limit of document 01, sections 3 and 5, on chips of up to 2,048 blocks, and one key put a million times. */
+#include <floatstore.h>
+#include <stdio.h>
+#include <stdlib.h>
+#include <string.h>
+
+/* The declarations are fixed, since others link against them: a header that says something else doesn't compile with these. */
+int64_t floatstore_format(uint8_t *chip, size_t chip_len, uint32_t *work, size_t work_len, uint64_t *fuse, const uint8_t *noise /* 4096 bytes */);
+int64_t floatstore_start (const uint8_t *chip, size_t chip_len, uint32_t *work, size_t work_len, const uint64_t *fuse);
+int64_t floatstore_put   (uint8_t *chip, size_t chip_len, uint32_t *work, size_t work_len, uint64_t *fuse, const uint8_t *noise, const uint8_t *key, size_t key_len, const uint8_t *value, size_t value_len);
+int64_t floatstore_get   (const uint8_t *chip, size_t chip_len, const uint32_t *work, size_t work_len, const uint64_t *fuse, const uint8_t *key, size_t key_len, uint8_t *buffer, size_t buffer_len); /* the length */
+int64_t floatstore_delete(uint8_t *chip, size_t chip_len, uint32_t *work, size_t work_len, uint64_t *fuse, const uint8_t *noise, const uint8_t *key, size_t key_len);
+int64_t floatstore_count (const uint8_t *chip, size_t chip_len, const uint32_t *work, size_t work_len, const uint64_t *fuse); /* the count */
+
+static uint8_t *chip, noise[FLOATSTORE_NOISE];
+static uint32_t *work;
+static uint64_t fuse = FLOATSTORE_NO_FAULT;
+static size_t chip_len, work_len;
+static int wrong;
+
+#define IS(want, call)                                                                                                          \
+    do {                                                                                                                        \
+        long long got_ = (long long)(call), want_ = (long long)(want);                                                          \
+        if (got_ != want_) wrong++, printf("%s:%d: %s is %lld and should be %lld\n", __FILE__, __LINE__, #call, got_, want_);   \
+    } while (0)
+
+static int64_t format(void) { return floatstore_format(chip, chip_len, work, work_len, &fuse, noise); }
+static int64_t start(void) { return floatstore_start(chip, chip_len, work, work_len, &fuse); }
+static int64_t count(void) { return floatstore_count(chip, chip_len, work, work_len, &fuse); }
+static int64_t put(const void *key, size_t key_len, const void *value, size_t len) {
+    return floatstore_put(chip, chip_len, work, work_len, &fuse, noise, key, key_len, value, len);
+}
+static int64_t get(const void *key, size_t key_len, void *buffer, size_t len) {
+    return floatstore_get(chip, chip_len, work, work_len, &fuse, key, key_len, buffer, len);
+}
+static int64_t del(const void *key, size_t key_len) { return floatstore_delete(chip, chip_len, work, work_len, &fuse, noise, key, key_len); }
+
+/* A blank chip of B blocks, and an area full of anything. */
+static void lend(size_t blocks) {
+    free(chip);
+    free(work);
+    chip_len = FLOATSTORE_CHIP_LEN(blocks);
+    work_len = FLOATSTORE_WORK_LEN(blocks);
+    chip = malloc(chip_len);
+    work = malloc(4 * work_len);
+    if (!chip || !work) exit(2);
+    memset(chip, 0xFF, chip_len);
+    memset(work, 0xA5, 4 * work_len);
+    fuse = FLOATSTORE_NO_FAULT;
+}
+
+/* Every call is refused with k. */
+static void all_refused(int k) {
+    uint8_t b[96];
+    IS(-k, count());
+    IS(-k, put("a", 1, "1", 1));
+    IS(-k, get("a", 1, b, sizeof b));
+    IS(-k, del("a", 1));
+}
+
+static void sizes(void) {
+    static const size_t bad[] = {0, 1, 2, 3, 2049};
+    for (size_t i = 0; i < sizeof bad / sizeof bad[0]; i++) {
+        lend(bad[i]);
+        IS(-5, start());
+        IS(-5, format());
+        all_refused(5);
+    }
+    lend(4);
+    work_len--;
+    IS(-5, start());
+    work_len++;
+    chip_len--;
+    IS(-5, start());
+    chip_len++;
+    IS(0, start());
+    IS(0, count());
+    work_len--;
+    all_refused(5);
+    work_len++;
+    IS(0, count());
+}
+
+/* Fills a chip of B blocks to its last key, one more is refused, and all is there after a start. */
+static void fill(size_t blocks) {
+    uint8_t b[96];
+    size_t room = FLOATSTORE_ROOM(blocks), n;
+    lend(blocks);
+    IS(0, start());
+    for (n = 0; n < room; n++) {
+        uint32_t key = (uint32_t)n * 2654435761u;
+        if (put(&key, 4, &n, 4) != 0) break;
+    }
+    IS(room, n);
+    IS(room, count());
+    IS(-3, put("seventeen", 9, "x", 1));
+    uint32_t first = 0;
+    IS(0, put(&first, 4, "new", 3));
+    IS(0, del(&first, 4));
+    IS(-4, del(&first, 4));
+    IS(0, put("seventeen", 9, "x", 1));
+    IS(-3, put(&first, 4, "x", 1));
+    IS(0, start());
+    IS(room, count());
+    for (n = 1; n < room; n++) {
+        uint32_t key = (uint32_t)n * 2654435761u, value = 0;
+        if (get(&key, 4, &value, 4) != 4 || value != n) break;
+    }
+    IS(room, n);
+    IS(1, get("seventeen", 9, b, 1));
+}
+
+static void arguments(void) {
+    uint8_t b[97], v[97];
+    memset(v, 7, sizeof v);
+    lend(4);
+    all_refused(8);
+    IS(0, start());
+    IS(-1, put("", 0, v, 1));
+    IS(-1, get("", 0, b, 1));
+    IS(-1, del("", 0));
+    IS(0, put("0123456789abcdef", 16, v, 96));
+    IS(-1, put("0123456789abcdefg", 17, v, 97));
+    IS(-1, get("0123456789abcdefg", 17, b, 96));
+    IS(-2, put("a", 1, v, 97));
+    IS(-4, get("a", 1, b, 96));
+    memset(b, 1, sizeof b);
+    IS(-6, get("0123456789abcdef", 16, b, 95));
+    IS(1, b[0]);
+    IS(96, get("0123456789abcdef", 16, b, 97));
+    IS(7, b[95]);
+    IS(1, b[96]);
+    IS(0, put("a", 1, v, 0));
+    IS(0, get("a", 1, b, 0));
+    IS(2, count());
+    IS(0, put("\0\0", 2, "zero", 4));
+    IS(-4, get("\0", 1, b, 4));
+    IS(3, count());
+}
+
+static void power(void) {
+    lend(4);
+    IS(0, start());
+    IS(0, put("a", 1, "1", 1));
+    fuse = 0;
+    IS(-7, start());
+    IS(-7, format());
+    all_refused(7);
+    fuse = 1; /* and the noise is all zeros: the write is completed although nobody is told */
+    IS(-7, put("a", 1, "2", 1));
+    IS(0, fuse);
+    fuse = FLOATSTORE_NO_FAULT;
+    all_refused(7);
+    IS(0, start());
+    uint8_t b = 0;
+    IS(1, get("a", 1, &b, 1));
+    IS('2', b);
+    fuse = 3;
+    IS(-7, format());
+    fuse = FLOATSTORE_NO_FAULT;
+    IS(-7, format());
+    start();
+    IS(0, format());
+    all_refused(8);
+    IS(0, start());
+    IS(0, count());
+    memset(chip, 0, chip_len); /* no store: every block is sealed */
+    IS(-8, start());
+    all_refused(8);
+}
+
+static void million(void) {
+    lend(4);
+    IS(0, start());
+    uint32_t i, erases = 0;
+    for (i = 0; i < 1000000; i++) {
+        uint64_t before = fuse;
+        if (put("a", 1, &i, 4) != 0) break;
+        erases += before - fuse > 1;
+    }
+    IS(1000000, i);
+    uint32_t last = 0;
+    IS(4, get("a", 1, &last, 4));
+    IS(999999, last);
+    IS(1, count());
+    printf("one key put 1,000,000 times on 4 blocks: none refused, %u of them opened a block\n", erases);
+}
+
+int main(void) {
+    sizes();
+    arguments();
+    power();
+    fill(4);
+    fill(5);
+    fill(2048);
+    million();
+    printf("calls from C: %s\n", wrong ? "FAILED" : "as documented, with B = 4 and 2,048 accepted, 3 and 2,049 refused");
+    return wrong != 0;
+}

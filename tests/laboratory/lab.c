@@ -1,0 +1,429 @@
+/* The crash laboratory: random histories of a store on chips of 4, 5, 8 and 16 blocks, beside a model of its map that shares nothing with it.
+ *
+ * Each put and delete is cut at every one of its operations, on copies of the chip, with noise that an adversary chose; after each cut the map must be the
+ * one before or the one after, and then the call is tried again and cut again, three deep. The history itself goes on whole or through a cut. What the store does to
+ * the chip is seen from outside (tools/watch.h): erases and writes are counted without a word from the store, and a write to a page that isn't blank is found.
+ *
+ *   lab library|twin|both|bugN SECONDS [SEED]      0: nothing found; 1: found, with the way to it; 2: bad usage
+ *
+ * library: the proved one; twin: one in plain C (twin.c); both: the first, and the second on a copy of the chip must leave the same bytes; bugN: a twin with a
+ * planted fault, which must be found. Histories are numbered from SEED on (1), and are the same on every machine. */
+#include "twin.h"
+#include "watch.h"
+#include <floatstore.h>
+#include <stdarg.h>
+#include <stdio.h>
+#include <stdlib.h>
+#include <string.h>
+#include <time.h>
+
+enum { MAX_B = 16, ROOM = 8 * (MAX_B - 2), KEYS = ROOM + 8, MAX_OPS = 256, DEPTH = 3 };
+
+struct store {
+    int64_t (*format)(uint8_t *, size_t, uint32_t *, size_t, uint64_t *, const uint8_t *);
+    int64_t (*start)(const uint8_t *, size_t, uint32_t *, size_t, const uint64_t *);
+    int64_t (*put)(uint8_t *, size_t, uint32_t *, size_t, uint64_t *, const uint8_t *, const uint8_t *, size_t, const uint8_t *, size_t);
+    int64_t (*get)(const uint8_t *, size_t, const uint32_t *, size_t, const uint64_t *, const uint8_t *, size_t, uint8_t *, size_t);
+    int64_t (*delete)(uint8_t *, size_t, uint32_t *, size_t, uint64_t *, const uint8_t *, const uint8_t *, size_t);
+    int64_t (*count)(const uint8_t *, size_t, const uint32_t *, size_t, const uint64_t *);
+};
+static const struct store library = {floatstore_format, floatstore_start, floatstore_put, floatstore_get, floatstore_delete, floatstore_count};
+static const struct store twin = {twin_format, twin_start, twin_put, twin_get, twin_delete, twin_count};
+static const struct store *store;
+
+static void found(const char *form, ...);
+
+/* The twin makes the same change on a copy of the chip. What it must answer and leave is what the library did. */
+static void mirror(const uint8_t *before, uint64_t fuse, int64_t answer, const uint8_t *chip, size_t len, uint64_t left, const uint8_t *noise, const uint8_t *key,
+                   size_t key_len, const uint8_t *value, size_t value_len) {
+    static uint8_t own[FLOATSTORE_CHIP_LEN(MAX_B)];
+    static uint32_t work[FLOATSTORE_WORK_LEN(MAX_B)];
+    const uint64_t lit = 1;
+    if (answer == -7 && left == fuse) return; /* the power was gone before */
+    memcpy(own, before, len);
+    if (twin_start(own, len, work, FLOATSTORE_WORK_LEN(MAX_B), &lit) != 0) found("the twin can't read the chip");
+    int64_t twins = value ? twin_put(own, len, work, FLOATSTORE_WORK_LEN(MAX_B), &fuse, noise, key, key_len, value, value_len)
+                          : twin_delete(own, len, work, FLOATSTORE_WORK_LEN(MAX_B), &fuse, noise, key, key_len);
+    if (twins != answer || fuse != left || memcmp(own, chip, len) != 0) found("library and twin differ");
+}
+
+static int64_t both_put(uint8_t *chip, size_t len, uint32_t *work, size_t work_len, uint64_t *fuse, const uint8_t *noise, const uint8_t *key, size_t key_len,
+                        const uint8_t *value, size_t value_len) {
+    static uint8_t before[FLOATSTORE_CHIP_LEN(MAX_B)];
+    uint64_t full = *fuse;
+    memcpy(before, chip, len);
+    int64_t answer = floatstore_put(chip, len, work, work_len, fuse, noise, key, key_len, value, value_len);
+    mirror(before, full, answer, chip, len, *fuse, noise, key, key_len, value, value_len);
+    return answer;
+}
+
+static int64_t both_delete(uint8_t *chip, size_t len, uint32_t *work, size_t work_len, uint64_t *fuse, const uint8_t *noise, const uint8_t *key, size_t key_len) {
+    static uint8_t before[FLOATSTORE_CHIP_LEN(MAX_B)];
+    uint64_t full = *fuse;
+    memcpy(before, chip, len);
+    int64_t answer = floatstore_delete(chip, len, work, work_len, fuse, noise, key, key_len);
+    mirror(before, full, answer, chip, len, *fuse, noise, key, key_len, NULL, 0);
+    return answer;
+}
+
+static const struct store both = {floatstore_format, floatstore_start, both_put, floatstore_get, both_delete, floatstore_count};
+
+/* ---- chance: the same histories on every machine, so no two in one expression whose order C leaves open */
+
+static uint64_t chance_state;
+static uint32_t chance(uint32_t below) { /* splitmix64 */
+    uint64_t z = chance_state += 0x9E3779B97F4A7C15u;
+    z = (z ^ (z >> 30)) * 0xBF58476D1CE4E5B9u;
+    z = (z ^ (z >> 27)) * 0x94D049BB133111EBu;
+    return (uint32_t)((z ^ (z >> 31)) >> 32) % below;
+}
+
+/* ---- the model: keys are numbered, and the map is an array */
+
+struct entry {
+    uint8_t has, len, value[96];
+};
+struct map {
+    struct entry of[KEYS];
+    size_t count;
+};
+struct change {
+    size_t key;
+    struct entry to; /* what the key has afterwards */
+};
+
+/* Keys of one byte and its repetitions: many are beginnings of others. */
+static size_t key_of(size_t i, uint8_t *key) {
+    memset(key, (int)(i / 16), 16);
+    return 1 + i % 16;
+}
+
+static void make(struct map *m, const struct change *c) {
+    m->count += c->to.has;
+    m->count -= m->of[c->key].has;
+    m->of[c->key] = c->to;
+}
+
+/* ---- a chip, a work area, the fault script */
+
+static size_t blocks;
+
+static int64_t start(struct world *w) { return store->start(w->chip, w->chip_len, w->work, w->work_len, &w->fuse); }
+static int64_t count(struct world *w) { return store->count(w->chip, w->chip_len, w->work, w->work_len, &w->fuse); }
+static int64_t get(struct world *w, size_t i, uint8_t *buffer, size_t len) {
+    uint8_t key[16];
+    size_t key_len = key_of(i, key);
+    return store->get(w->chip, w->chip_len, w->work, w->work_len, &w->fuse, key, key_len, buffer, len);
+}
+static int64_t run(struct world *w, const struct change *c, const uint8_t *noise) {
+    uint8_t key[16];
+    size_t key_len = key_of(c->key, key);
+    if (c->to.has) return store->put(w->chip, w->chip_len, w->work, w->work_len, &w->fuse, noise, key, key_len, c->to.value, c->to.len);
+    return store->delete(w->chip, w->chip_len, w->work, w->work_len, &w->fuse, noise, key, key_len);
+}
+
+/* ---- what is found ends the run, with the way to it */
+
+static struct {
+    uint64_t seed, calls, changes, failures, histories, cuts, nested;
+    const char *name, *at;
+} tally;
+
+static void found(const char *form, ...) {
+    va_list words;
+    va_start(words, form);
+    printf("%s: FOUND in history %llu on %zu blocks, call %llu, after %llu power failures%s: ", tally.name, (unsigned long long)tally.seed, blocks,
+           (unsigned long long)tally.calls, (unsigned long long)tally.failures, tally.at);
+    vprintf(form, words);
+    printf("\n");
+    va_end(words);
+    exit(1);
+}
+
+/* ---- the map read through the store */
+
+/* Key i says what the model says; past the value the buffer is as it was. */
+static int key_agrees(struct world *w, const struct map *m, size_t i) {
+    uint8_t buffer[97];
+    const struct entry *e = &m->of[i];
+    memset(buffer, 0x5C, sizeof buffer);
+    int64_t len = get(w, i, buffer, sizeof buffer);
+    if (!e->has) return len == -4;
+    return len == e->len && memcmp(buffer, e->value, e->len) == 0 && buffer[e->len] == 0x5C;
+}
+
+/* The first key on which store and model differ, KEYS if there is none; KEYS + 1 if only the count does. */
+static size_t differs(struct world *w, const struct map *m) {
+    for (size_t i = 0; i < KEYS; i++)
+        if (!key_agrees(w, m, i)) return i;
+    return count(w) == (int64_t)m->count ? KEYS : KEYS + 1;
+}
+
+/* ---- the adversary's noise */
+
+enum { ONES, ZEROS, PAGES, ONE_KEPT, ONE_CLEARED, SPARSE_ONES, SPARSE_ZEROS, PREFIX, BITS, NOISES };
+static const char *const noises[NOISES] = {"all ones", "all zeros", "page by page", "one page kept", "one page cleared", "few ones", "few zeros", "cut at a byte", "random bits"};
+
+static void fill_noise(uint8_t *noise, int kind) {
+    size_t from = 256 * chance(16);
+    from += chance(257);
+    memset(noise, kind == ONES || kind == ONE_KEPT || kind == SPARSE_ZEROS ? 0xFF : 0, FLOATSTORE_NOISE);
+    if (kind == ONE_KEPT || kind == ONE_CLEARED) memset(noise + 256 * chance(16), kind == ONE_KEPT ? 0 : 0xFF, 256);
+    if (kind == PAGES)
+        for (size_t p = 0; p < 16; p++) memset(noise + 256 * p, chance(2) ? 0xFF : 0, 256);
+    if (kind == PREFIX) /* the write of a page, or the erase of a block, had come so far */
+        for (size_t i = 0; i < FLOATSTORE_NOISE; i++) noise[i] = (chance(64) ? i % 256 >= from % 256 : i >= from) ? 0xFF : 0;
+    if (kind == BITS)
+        for (size_t i = 0; i < FLOATSTORE_NOISE; i++) noise[i] = (uint8_t)chance(256);
+    if (kind == SPARSE_ONES || kind == SPARSE_ZEROS)
+        for (size_t i = 1 + chance(6); i > 0; i--) {
+            size_t at = chance(2) ? chance(256) : chance(FLOATSTORE_NOISE);
+            noise[at] ^= (uint8_t)(1u << chance(8));
+        }
+}
+
+/* ---- what a call does to the chip, seen from outside */
+
+struct trace {
+    size_t len;
+    struct op op[MAX_OPS];
+};
+
+static int64_t call_again(const void *what, struct world *w, const uint8_t *noise) { return run(w, what, noise); }
+
+static void observe(struct trace *t, const struct world *w, const struct change *c) {
+    const char *wrong = watch(t->op, MAX_OPS, &t->len, call_again, c, w);
+    if (wrong) found("%s", wrong);
+    if (t->len > MAX_OPS) found("a call does %zu operations", t->len);
+}
+
+/* ---- cost and wear */
+
+static struct wear wear; /* of this history */
+static struct {
+    size_t erases, writes; /* of a call */
+    size_t calm, rough, failures; /* unevenness of a history without a power failure; with some, and how many */
+    size_t percent; /* erases, in percent of n/7 + q, once n is 100 */
+} worst[MAX_B + 1]; /* by the number of blocks */
+
+static void check_cost(const struct trace *t) {
+    size_t erases = 0, room = FLOATSTORE_ROOM(blocks);
+    for (size_t i = 0; i < t->len; i++) erases += t->op[i].kind != WRITE;
+    size_t writes = t->len - erases;
+    if (erases > room / 15 + 1 || writes > room + blocks) found("a call does %zu erases and %zu writes", erases, writes);
+    if (erases > worst[blocks].erases) worst[blocks].erases = erases;
+    if (writes > worst[blocks].writes) worst[blocks].writes = writes;
+}
+
+static void check_wear(void) {
+    size_t least = wear.of[0], most = wear.of[0];
+    for (size_t b = 1; b < blocks; b++) {
+        if (wear.of[b] < least) least = wear.of[b];
+        if (wear.of[b] > most) most = wear.of[b];
+    }
+    if (most - least > 1 + tally.failures) found("wear is uneven: a block was erased %zu times and another %zu", most, least);
+    if (wear.all > tally.failures && 7 * (wear.all - tally.failures) > tally.changes)
+        found("%zu erases after %llu puts and deletes", wear.all, (unsigned long long)tally.changes);
+    size_t percent = (size_t)(700 * wear.all / (tally.changes + 7 * tally.failures));
+    if (tally.changes >= 100 && percent > worst[blocks].percent) worst[blocks].percent = percent;
+    if (tally.failures == 0 && most - least > worst[blocks].calm) worst[blocks].calm = most - least;
+    if (tally.failures && most - least > worst[blocks].rough) worst[blocks].rough = most - least, worst[blocks].failures = (size_t)tally.failures;
+}
+
+/* ---- cuts */
+
+/* The power fails at operation k. After the start the map is m or m with the change made: m is set to the one it is. */
+static void cut(struct world *w, struct map *m, const struct change *c, size_t k, int kind) {
+    static uint8_t noise[FLOATSTORE_NOISE], chip[FLOATSTORE_CHIP_LEN(MAX_B)];
+    static char at[96];
+    snprintf(at, sizeof at, ", cut at operation %zu with noise '%s'", k, noises[kind]);
+    tally.at = at;
+    tally.cuts++;
+    fill_noise(noise, kind);
+    w->fuse = k;
+    if (run(w, c, noise) != -7 || w->fuse != 0) found("the call that was cut does not answer -7");
+    memcpy(chip, w->chip, w->chip_len);
+    w->fuse = FLOATSTORE_NO_FAULT;
+    if (run(w, c, noise) != -7 || count(w) != -7) found("a call after the cut does not answer -7");
+    int64_t answer = start(w);
+    if (answer != 0) found("start answers %lld", (long long)answer);
+    if (memcmp(chip, w->chip, w->chip_len) != 0) found("the chip changed between the cut and the start's end");
+    size_t i = differs(w, m);
+    if (i != KEYS) {
+        make(m, c);
+        size_t j = differs(w, m);
+        if (j != KEYS) {
+            if (i == c->key) i = j;
+            if (i > KEYS) found("the number of keys is neither that before nor that after");
+            found("key %zu is neither as before nor as after", i);
+        }
+    }
+    tally.at = "";
+}
+
+static void choose(struct change *c, const struct map *m, size_t keys, uint32_t deletes);
+
+static struct world now, worlds[DEPTH], whole;
+static struct map map;
+
+/* On a copy: the call is cut at k, tried again and cut again, or another call is; so deep. */
+static void cut_deep(const struct world *w, const struct map *m, const struct change *c, size_t k, int kind, int depth) {
+    static struct map maps[DEPTH];
+    struct world *there = &worlds[depth];
+    struct map *then = &maps[depth];
+    struct change again = *c;
+    copy_world(there, w);
+    *then = *m;
+    cut(there, then, c, k, kind);
+    if (depth + 1 == DEPTH || chance(2)) return;
+    if (chance(4) == 0) choose(&again, then, FLOATSTORE_ROOM(blocks), 30);
+    if (!again.to.has && !then->of[again.key].has) return;
+    if (again.to.has && !then->of[again.key].has && then->count >= FLOATSTORE_ROOM(blocks)) return;
+    static const uint8_t noise[FLOATSTORE_NOISE];
+    copy_world(&whole, there);
+    if (run(&whole, &again, noise) != 0) found("after a cut and a start a call is refused");
+    tally.nested++;
+    size_t at = 1 + chance((uint32_t)(FLOATSTORE_NO_FAULT - whole.fuse));
+    cut_deep(there, then, &again, at, (int)chance(NOISES), depth + 1);
+}
+
+/* ---- a history */
+
+/* A put, or a delete in so many of a hundred, of one of the first keys. */
+static void choose(struct change *c, const struct map *m, size_t keys, uint32_t deletes) {
+    static const uint8_t lengths[4] = {0, 1, 96, 40};
+    c->key = chance((uint32_t)keys);
+    memset(&c->to, 0, sizeof c->to);
+    if (chance(100) < deletes && m->of[c->key].has) return;
+    c->to.has = 1;
+    c->to.len = chance(3) ? lengths[chance(4)] : (uint8_t)chance(97);
+    for (size_t i = 0; i < c->to.len; i++) c->to.value[i] = (uint8_t)chance(256);
+}
+
+static void refused_as_it_should(const struct change *c, int64_t want) {
+    static uint8_t chip[FLOATSTORE_CHIP_LEN(MAX_B)], noise[FLOATSTORE_NOISE];
+    memcpy(chip, now.chip, now.chip_len);
+    int64_t got = run(&now, c, noise);
+    if (got != want) found("a call answers %lld and should answer %lld", (long long)got, (long long)want);
+    if (memcmp(chip, now.chip, now.chip_len) != 0) found("a refused call changed the chip");
+}
+
+/* One put or delete, watched, cut at every operation on copies, and then made: whole, or in one of `risk` cut short. */
+static void step(const struct change *c, uint32_t risk) {
+    static struct trace t;
+    static const uint8_t noise[FLOATSTORE_NOISE];
+    int64_t refusal = 0;
+    tally.calls++;
+    if (!map.of[c->key].has) refusal = !c->to.has ? -4 : map.count >= FLOATSTORE_ROOM(blocks) ? -3 : 0;
+    if (refusal) {
+        refused_as_it_should(c, refusal);
+        return;
+    }
+    observe(&t, &now, c);
+    check_cost(&t);
+    for (size_t k = 1; k <= t.len; k++) {
+        int sure = (int)chance(NOISES); /* no operation goes without a cut */
+        for (int kind = 0; kind < NOISES; kind++)
+            if (kind == sure || chance(t.len > 1 ? 2 : 4) == 0) cut_deep(&now, &map, c, k, kind, 0);
+    }
+    tally.changes++;
+    size_t k = 1 + chance((uint32_t)t.len);
+    if (risk && chance(risk) == 0) {
+        tally.failures++;
+        count_wear(&wear, t.op, k);
+        cut(&now, &map, c, k, (int)chance(NOISES));
+    } else {
+        count_wear(&wear, t.op, t.len);
+        if (run(&now, c, noise) != 0) found("a call that may not be refused is");
+        make(&map, c);
+    }
+    check_wear();
+}
+
+static int all_blank(const struct world *w) {
+    for (size_t i = 0; i < w->chip_len; i++)
+        if (w->chip[i] != 0xFF) return 0;
+    return 1;
+}
+
+/* A chip full of anything is formatted, cut short first; then it is blank. */
+static void format_wild(void) {
+    static uint8_t noise[FLOATSTORE_NOISE];
+    for (size_t i = 0; i < now.chip_len; i++) now.chip[i] = (uint8_t)chance(256);
+    fill_noise(noise, (int)chance(NOISES));
+    start(&now);
+    now.fuse = 1 + chance((uint32_t)blocks);
+    if (store->format(now.chip, now.chip_len, now.work, now.work_len, &now.fuse, noise) != -7) found("a format that was cut does not answer -7");
+    now.fuse = FLOATSTORE_NO_FAULT;
+    start(&now);
+    if (store->format(now.chip, now.chip_len, now.work, now.work_len, &now.fuse, noise) != 0) found("a format after a cut and a start is refused");
+    if (FLOATSTORE_NO_FAULT - now.fuse != blocks || !all_blank(&now)) found("a format does not erase each block once");
+    if (count(&now) != -8) found("a call after a format, with no start, does not answer -8");
+}
+
+static void history(uint64_t seed) {
+    static const size_t sizes[4] = {4, 5, 8, 16};
+    static const uint32_t risks[4] = {0, 3, 12, 60};
+    chance_state = seed * 1000003;
+    blocks = sizes[seed % 4];
+    now.chip_len = FLOATSTORE_CHIP_LEN(blocks), now.work_len = FLOATSTORE_WORK_LEN(blocks);
+    memset(&wear, 0, sizeof wear);
+    memset(&map, 0, sizeof map);
+    memset(now.chip, 0xFF, now.chip_len);
+    for (size_t i = 0; i < now.work_len; i++) now.work[i] = chance(7);
+    now.fuse = FLOATSTORE_NO_FAULT;
+    tally.seed = seed, tally.calls = tally.changes = tally.failures = 0, tally.at = "";
+    if (chance(3) == 0) format_wild();
+    if (start(&now) != 0) found("start of a blank chip is refused");
+    size_t room = FLOATSTORE_ROOM(blocks);
+    uint32_t risk = risks[chance(4)];
+    for (int phase = 0; phase < 4; phase++) {
+        /* few keys, many, all that there is room for, more; in one phase the store is filled and one key put over and over */
+        size_t keys = phase == 2 ? 1 : chance(3) ? 1 + chance((uint32_t)room + 4) : room + chance(8);
+        uint32_t deletes = chance(3) ? chance(60) : 0;
+        for (size_t i = 0; phase == 2 && i < room; i++) {
+            struct change c;
+            choose(&c, &map, 1, 0);
+            c.key = i;
+            step(&c, risk);
+        }
+        for (size_t i = 10 * blocks + chance(8 * (uint32_t)blocks); i > 0; i--) {
+            struct change c;
+            choose(&c, &map, keys, deletes);
+            step(&c, risk);
+            if (chance(20) == 0 && start(&now) != 0) found("a start is refused");
+            if (!key_agrees(&now, &map, c.key) || (chance(8) == 0 && differs(&now, &map) != KEYS)) found("the map is wrong after a whole call");
+        }
+        if (differs(&now, &map) != KEYS) found("the map is wrong at the end of a phase");
+    }
+    tally.histories++;
+}
+
+static void report(void) {
+    printf("%s: %llu histories, %llu cuts survived, %llu of them nested; nothing found\n", tally.name, (unsigned long long)tally.histories,
+           (unsigned long long)tally.cuts, (unsigned long long)tally.nested);
+    for (size_t b = 4; b <= MAX_B; b++)
+        if (worst[b].writes)
+            printf("  %2zu blocks, worst and bound: a call's erases %zu of %zu, its page writes %zu of %zu; unevenness %zu of 1 with no power failure, %zu of %zu with; all erases %zu%% of n/7 + q\n",
+                   b, worst[b].erases, FLOATSTORE_ROOM(b) / 15 + 1, worst[b].writes, FLOATSTORE_ROOM(b) + b, worst[b].calm, worst[b].rough, 1 + worst[b].failures, worst[b].percent);
+}
+
+int main(int argc, char **argv) {
+    static char name[96];
+    if (argc < 3 || argc > 4) return fprintf(stderr, "usage: lab library|twin|both|bugN SECONDS [SEED]\n"), 2;
+    store = strcmp(argv[1], "library") == 0 ? &library : strcmp(argv[1], "both") == 0 ? &both : &twin;
+    if (store == &twin && strcmp(argv[1], "twin") != 0 && strncmp(argv[1], "bug", 3) != 0) return fprintf(stderr, "lab: %s is no store\n", argv[1]), 2;
+    if (strncmp(argv[1], "bug", 3) == 0) twin_bug = atoi(argv[1] + 3);
+    if (twin_bug < 0 || twin_bug >= BUGS) return fprintf(stderr, "lab: there is no such bug\n"), 2;
+    if (twin_bug) snprintf(name, sizeof name, "twin whose fault is '%s'", twin_bugs[twin_bug]);
+    tally.name = twin_bug ? name : argv[1];
+    int room = make_world(&now, MAX_B) && make_world(&whole, MAX_B);
+    for (int i = 0; i < DEPTH; i++) room = room && make_world(&worlds[i], MAX_B);
+    if (!room) return fprintf(stderr, "lab: no memory\n"), 2;
+    time_t until = time(NULL) + atoi(argv[2]);
+    uint64_t seed = argc == 4 ? (uint64_t)strtoull(argv[3], NULL, 10) : 1;
+    do history(seed++);
+    while (time(NULL) < until || tally.histories < 4); /* each size once at least */
+    report();
+    return 0;
+}

@@ -1,0 +1,30 @@
+/* A plain C twin of the store, written from the documents and docs/FORMAT.md and sharing no line with it. twin_bug plants a fault; 0 is the right twin. */
+#ifndef TWIN_H
+#define TWIN_H
+
+#include <stddef.h>
+#include <stdint.h>
+
+enum {
+    RIGHT,
+    SEALS_EARLY, /* the head is sealed before the last live value is copied */
+    READS_SPARE, /* start believes what stands in the spare: a deleted key comes back */
+    HALF_SOUND, /* the flipped copy of the first 64 bytes alone is compared: mixed values */
+    TRUSTS_BLANK, /* the spare isn't erased if its first page reads blank */
+    ERASES_TWICE, /* the spare is erased twice, to be sure: right, but it wears unevenly */
+    BUGS
+};
+extern int twin_bug;
+extern const char *const twin_bugs[BUGS];
+
+int64_t twin_format(uint8_t *chip, size_t chip_len, uint32_t *work, size_t work_len, uint64_t *fuse, const uint8_t *noise);
+int64_t twin_start(const uint8_t *chip, size_t chip_len, uint32_t *work, size_t work_len, const uint64_t *fuse);
+int64_t twin_put(uint8_t *chip, size_t chip_len, uint32_t *work, size_t work_len, uint64_t *fuse, const uint8_t *noise, const uint8_t *key,
+                 size_t key_len, const uint8_t *value, size_t value_len);
+int64_t twin_get(const uint8_t *chip, size_t chip_len, const uint32_t *work, size_t work_len, const uint64_t *fuse, const uint8_t *key,
+                 size_t key_len, uint8_t *buffer, size_t buffer_len);
+int64_t twin_delete(uint8_t *chip, size_t chip_len, uint32_t *work, size_t work_len, uint64_t *fuse, const uint8_t *noise, const uint8_t *key,
+                    size_t key_len);
+int64_t twin_count(const uint8_t *chip, size_t chip_len, const uint32_t *work, size_t work_len, const uint64_t *fuse);
+
+#endif
