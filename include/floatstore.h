@@ -78,6 +78,16 @@ int64_t floatstore_format(uint8_t *chip, size_t chip_len, uint32_t *work, size_t
 /* Reads the chip and makes the store ready; the map is the one that was there. It writes nothing to the chip, so it can't be cut. */
 int64_t floatstore_start(const uint8_t *chip, size_t chip_len, uint32_t *work, size_t work_len, const uint64_t *fuse);
 
+/* What a start saw of the chip's pages, for those who compare chips: a page is blank (all 0xFF), sound (its second half is the flipped copy of the first),
+ * or spoilt, as a cut write or erase leaves it. */
+struct floatstore_seen {
+    uint64_t blank, sound, spoilt; /* how many pages of each kind: together 16 B */
+    uint64_t page, byte; /* if spoilt > 0: the first spoilt page, and the lowest byte (0 to 127) at which it and its copy disagree */
+};
+
+/* The same start, which reads every page and fills *seen where it is done; refused, it leaves *seen as it was. */
+int64_t floatstore_start_seeing(const uint8_t *chip, size_t chip_len, uint32_t *work, size_t work_len, const uint64_t *fuse, struct floatstore_seen *seen);
+
 /* The key has this value from now on, whether or not it had one. */
 int64_t floatstore_put(uint8_t *chip, size_t chip_len, uint32_t *work, size_t work_len, uint64_t *fuse, const uint8_t *noise,
                        const uint8_t *key, size_t key_len, const uint8_t *value, size_t value_len);

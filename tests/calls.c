@@ -1,4 +1,4 @@
-/* The six calls from C: both sides of each limit of document 01, sections 3 and 5, on chips of up to 2,048 blocks, and one key put a million times. */
+/* The six calls from C, and the start that says what it saw: both sides of each limit of document 01, sections 3 and 5, on chips of up to 2,048 blocks, and one key put a million times. */
 #include <floatstore.h>
 #include <stdio.h>
 #include <stdlib.h>
@@ -186,7 +186,41 @@ static void million(void) {
     printf("one key put 1,000,000 times on 4 blocks: none refused, %u of them opened a block\n", erases);
 }
 
+static void saw(uint64_t blank, uint64_t sound, uint64_t spoilt, uint64_t page, uint64_t byte) {
+    struct floatstore_seen s = {1, 2, 3, 4, 5};
+    IS(0, floatstore_start_seeing(chip, chip_len, work, work_len, &fuse, &s));
+    IS(blank, s.blank);
+    IS(sound, s.sound);
+    IS(spoilt, s.spoilt);
+    IS(page, s.page);
+    IS(byte, s.byte);
+}
+
+/* The start that says what it saw: pages of the three kinds, and the first spoilt one. */
+static void seeing(void) {
+    struct floatstore_seen s = {1, 2, 3, 4, 5};
+    lend(4);
+    saw(64, 0, 0, 0, 0);
+    for (uint32_t i = 0; i < 5; i++) IS(0, put("a", 1, &i, 4));
+    saw(59, 5, 0, 0, 0);
+    IS(1, count());
+    chip[256 * 3 + 128 + 40] ^= 1; /* the copy of byte 40 */
+    chip[256 * 3 + 77] ^= 1;
+    chip[256 * 63] = 0x7F; /* in the spare of the later rounds */
+    chip[256 * 63 + 255] = 0x7F;
+    IS(-8, floatstore_start_seeing(chip, chip_len, work, work_len, &fuse, &s)); /* in the first round blank pages must be blank */
+    chip[256 * 63] = chip[256 * 63 + 255] = 0xFF;
+    saw(59, 4, 1, 3, 40);
+    chip[256 * 1 + 127] ^= 4;
+    saw(59, 3, 2, 1, 127);
+    fuse = 0;
+    IS(-7, floatstore_start_seeing(chip, chip_len, work, work_len, &fuse, &s));
+    IS(-5, floatstore_start_seeing(chip, chip_len - 1, work, work_len, &fuse, &s));
+    IS(15, s.blank + s.sound + s.spoilt + s.page + s.byte);
+}
+
 int main(void) {
+    seeing();
     sizes();
     arguments();
     power();

@@ -66,6 +66,7 @@ says "$(printf '%96s' v)" get a.img 0123456789abcdef
 has 'oovnvvvv........  head' map a.img
 has 'head: block 0, its next place 8; first round' check a.img
 has 'agree on all 5 keys' check a.img
+has 'saw 56 blank, 8 sound and 0 spoilt pages' check a.img
 says '' map a.img --svg a.svg
 python3 -c 'import sys, xml.dom.minidom as m; d = m.parse("a.svg"); sys.exit(len(d.getElementsByTagName("path")) != 64)' || complain "a.svg is not a picture of 64 pages"
 ln -s a.img link
@@ -87,6 +88,7 @@ was=$(tool get a.img k1)
 if tool put a.img k1 cut --cut 1 --noise 7 2>said; then complain "a cut put succeeded"; fi
 grep -q 'cut short (7)' said || complain "a cut put says '$(cat said)'"
 has '1 page was left half written' check a.img
+has 'and 1 spoilt pages; the first spoilt one is page' check a.img
 says "$was" get a.img k1
 says '' put a.img k1 whole
 says whole get a.img k1

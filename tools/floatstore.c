@@ -344,6 +344,15 @@ static void compare_readers(const struct reading *r) {
     printf("readers  the library and docs/FORMAT.md agree on all %zu keys\n", r->keys);
 }
 
+/* What the library's start saw of the pages. */
+static void print_seen(void) {
+    struct floatstore_seen seen;
+    done(image.name, floatstore_start_seeing(image.chip, image.len, image.work, image.words, &image.fuse, &seen));
+    printf("start    saw %" PRIu64 " blank, %" PRIu64 " sound and %" PRIu64 " spoilt pages", seen.blank, seen.sound, seen.spoilt);
+    if (seen.spoilt > 0) printf("; the first spoilt one is page %" PRIu64 ", at byte %" PRIu64, seen.page, seen.byte);
+    printf("\n");
+}
+
 static void do_check(char **argv) {
     struct reading r;
     size_t sealed = 0;
@@ -358,7 +367,7 @@ static void do_check(char **argv) {
     if (r.later) printf("spare: block %zu; oldest: block %zu; %zu blocks sealed\n", r.spare, r.oldest, sealed);
     else printf("first round, nothing erased yet; %zu blocks sealed, %zu unused\n", sealed, r.blocks - 1 - r.head);
     print_cuts(&r);
-    start();
+    print_seen();
     printf("map      %" PRId64 " of %zu keys\n", count(), FLOATSTORE_ROOM(r.blocks));
     compare_readers(&r);
 }

@@ -1,12 +1,14 @@
 // The chip (document 01, section 1) and its fault script (document 03, section 1): erase a block, write a page, whole or cut short.
 // This is the only crate that changes the chip's bytes. What an operation leaves is said in specs/Chip.antt, what a run of them did in specs/Play.antt.
 // `fuse` is the number of the fault script: 0, the power is gone; 1, it goes during the next operation; more, it stays on for that one.
+use page::Look;
 ghost use mathlib.Core.Path.{_≡_};
 ghost use mathlib.Core.Bool.{true};
 ghost use Prim.Native.Nat.{_+_, _-_, _*_, _≤_};
 ghost use lib.ListN.{length, replicate};
 ghost use Rattle.page.specs.Page.{ors, ands};
-ghost use Rattle.chip.specs.Chip.{blankAt, power, erased, written};
+ghost use Rattle.page.specs.Look.{lookOf};
+ghost use Rattle.chip.specs.Chip.{pageAt, blankAt, power, erased, written};
 
 // Whether page p is blank, so that it may be written.
 pub fn blank_at(chip: &[u8], p: usize) -> bool
@@ -15,6 +17,15 @@ pub fn blank_at(chip: &[u8], p: usize) -> bool
 {
     let from = 256 * p;
     page::is_blank(&chip[from..from + 256])
+}
+
+// What page p is: blank, sound or spoilt.
+pub fn look_at(chip: &[u8], p: usize) -> Look
+    requires { ⌜ 256 * p + 256 ≤ length (now chip) ⌝ }
+    ensures { λ r. ⌜ r ≡ lookOf (pageAt (now (chip .entry)) p) ⌝ }
+{
+    let a = 256 * p;
+    page::look_at(&chip[a..a + 256])
 }
 
 // All bits become 1.

@@ -1,4 +1,4 @@
-// The store for C (include/floatstore.h): the six calls, with answers as numbers. At least 0: done; below: minus the number of the refusal.
+// The store for C (include/floatstore.h): the six calls, and a start that says what it saw, with answers as numbers. At least 0: done; below: minus the number of the refusal.
 // Each contract is that of the store's call, of the answer whose number is answered; specs/Numbers.antt says which number that is.
 use store::Answer;
 ghost use mathlib.Core.Path.{_≡_};
@@ -6,6 +6,7 @@ ghost use Rattle.chip.specs.Play.{Did};
 ghost use Rattle.store.specs.Ends.{blocksOf, Got};
 ghost use Rattle.store.specs.Reads.{Counted};
 ghost use Rattle.store.specs.Calls.{PutEnds, DeleteEnds, GetEnds, CountEnds, StartEnds, FormatEnds};
+ghost use Rattle.survey.specs.Seen.{Sees};
 ghost use Rattle.floatstore.specs.Numbers.{numberOf, held, Answers};
 ghost use lib.IntN.{pos, negℤ};
 
@@ -56,6 +57,19 @@ pub extern "C" fn floatstore_start(chip: &[u8], work: &mut [u32], fuse: &u64) ->
     ensures { λ r. ⌜ Answers (StartEnds (now (chip .entry)) (now (fuse .entry)) (now (work .entry)) (now (work .exit))) r ⌝ }
 {
     number(store::start(chip, work, fuse))
+}
+
+// The same, and what it saw of the chip's pages; refused, the five numbers stay as they were.
+#[no_mangle]
+pub extern "C" fn floatstore_start_seeing(
+    chip: &[u8],
+    work: &mut [u32],
+    fuse: &u64,
+    seen: &mut [u64; 5],
+) -> i64
+    ensures { λ r. ⌜ Answers (λ a. StartEnds (now (chip .entry)) (now (fuse .entry)) (now (work .entry)) (now (work .exit)) a × Sees (now (chip .entry)) (now (seen .entry)) (now (seen .exit)) a) r ⌝ }
+{
+    number(survey::start_seeing(chip, work, fuse, seen))
 }
 
 // The key has the value from now on, whether or not it had one.

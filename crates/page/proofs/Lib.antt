@@ -3,3 +3,4 @@ pub mod Grow
 pub mod Forms
 pub mod Filling
 pub mod Cut
+pub mod Lowest

@@ -4,6 +4,7 @@ ghost use mathlib.Core.Path.{_≡_};
 ghost use Prim.Native.Nat.{_+_, _-_};
 ghost use lib.ListN.{length, take};
 ghost use Rattle.page.specs.Page.{blank, sound, flips, form};
+ghost use Rattle.page.specs.Look.{Apart, lookOf};
 
 // Whether y is 255 minus x.
 fn flips(x: u8, y: u8) -> bool
@@ -41,6 +42,42 @@ pub fn is_sound(page: &[u8]) -> bool
         i += 1;
     }
     ok
+}
+
+// The lowest byte of the first half whose copy in the second is another; 128 if there is none.
+fn first_apart(page: &[u8]) -> usize
+    requires { ⌜ length (now page) ≡ 256 ⌝ }
+    ensures { λ r. ⌜ Apart (now (page .entry)) r ⌝ }
+{
+    let mut k = 0;
+    while k < 128 {
+        if !flips(page[k], page[128 + k]) {
+            return k;
+        }
+        k += 1;
+    }
+    k
+}
+
+// What a page is: blank, sound, or spoilt, and then the lowest byte at which page and flipped copy disagree.
+pub enum Look {
+    Blank,
+    Sound,
+    Spoilt(usize),
+}
+
+pub fn look_at(page: &[u8]) -> Look
+    requires { ⌜ length (now page) ≡ 256 ⌝ }
+    ensures { λ r. ⌜ r ≡ lookOf (now (page .entry)) ⌝ }
+{
+    if is_blank(page) {
+        return Look::Blank;
+    }
+    let i = first_apart(page);
+    if i == 128 {
+        return Look::Sound;
+    }
+    Look::Spoilt(i)
 }
 
 // A byte with all its bits flipped.

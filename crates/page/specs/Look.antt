@@ -1,0 +1,27 @@
+-- What a page is: blank, sound, or spoilt, and then where (request 2 of document 02). Assumes nothing.
+use mathlib.Core.Path.{_≡_}
+use mathlib.Core.Bool.{Bool, true, false, cond}
+use mathlib.Core.List.{List}
+use Prim.Native.Nat.{ℕ, zero, suc, _+_, _≤_, _<_}
+use Rattle.page.specs.Page.{byte, all, flips, blank, sound}
+use Rattle.page.specs.declared.Look.{Look}
+use Rattle.page.specs.declared.Look.the-variants.{Blank, Sound, Spoilt}
+
+-- byte i and its copy agree
+abbrev pub agree : List ℕ → ℕ → Bool
+agree pg i = flips (byte pg i) (byte pg (128 + i))
+
+-- the lowest number below n of which p does not hold; n if it holds of all
+unfoldable pub lowest : (ℕ → Bool) → ℕ → ℕ
+lowest p zero = zero
+lowest p (suc n) = cond (all p n) (cond (p n) (suc n) n) (lowest p n)
+
+-- blank; sound; or spoilt, with the lowest byte at which page and flipped copy disagree
+unfoldable pub lookOf : List ℕ → Look
+lookOf pg = cond (blank pg) Blank (cond (sound pg) Sound (Spoilt (lowest (agree pg) 128)))
+
+-- all bytes below r agree, and byte r does not, unless r is 128
+pub record Apart (pg : List ℕ) (r : ℕ) : Type 0 where
+  pub within : r ≤ 128
+  pub below : all (agree pg) r ≡ true
+  pub here : r < 128 → agree pg r ≡ false
