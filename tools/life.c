@@ -1,6 +1,7 @@
 /* A float's life: five years, a dive every ten days, settings and measurements, some forty power failures; beside the store a plain copy of its map.
  *   life [--blocks B] [--seed N] [--cuts] [--image FILE]      B from 4 to 256 (16); --cuts lists each power failure, --image keeps the chip at the end */
 #define _POSIX_C_SOURCE 200809L
+#include "chance.h"
 #include "reading.h"
 #include "watch.h"
 #include <floatstore.h>
@@ -23,14 +24,6 @@ static void die(const char *form, ...) {
     fputc('\n', stderr);
     va_end(words);
     exit(1);
-}
-
-static uint64_t chance_state;
-static uint32_t chance(uint32_t below) { /* splitmix64 */
-    uint64_t z = chance_state += 0x9E3779B97F4A7C15u;
-    z = (z ^ (z >> 30)) * 0xBF58476D1CE4E5B9u;
-    z = (z ^ (z >> 27)) * 0x94D049BB133111EBu;
-    return (uint32_t)((z ^ (z >> 31)) >> 32) % below;
 }
 
 /* ---- the plain copy of the map */

@@ -8,6 +8,7 @@
  *
  * library: the proved one; twin: one in plain C (twin.c); both: the first, and the second on a copy of the chip must leave the same bytes; bugN: a twin with a
  * planted fault, which must be found. Histories are numbered from SEED on (1), and are the same on every machine. */
+#include "chance.h"
 #include "twin.h"
 #include "watch.h"
 #include <floatstore.h>
@@ -67,16 +68,6 @@ static int64_t both_delete(uint8_t *chip, size_t len, uint32_t *work, size_t wor
 }
 
 static const struct store both = {floatstore_format, floatstore_start, both_put, floatstore_get, both_delete, floatstore_count};
-
-/* ---- chance: the same histories on every machine, so no two in one expression whose order C leaves open */
-
-static uint64_t chance_state;
-static uint32_t chance(uint32_t below) { /* splitmix64 */
-    uint64_t z = chance_state += 0x9E3779B97F4A7C15u;
-    z = (z ^ (z >> 30)) * 0xBF58476D1CE4E5B9u;
-    z = (z ^ (z >> 27)) * 0x94D049BB133111EBu;
-    return (uint32_t)((z ^ (z >> 31)) >> 32) % below;
-}
 
 /* ---- the model: keys are numbered, and the map is an array */
 

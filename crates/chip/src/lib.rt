@@ -24,8 +24,8 @@ pub fn look_at(chip: &[u8], p: usize) -> Look
     requires { ⌜ 256 * p + 256 ≤ length (now chip) ⌝ }
     ensures { λ r. ⌜ r ≡ lookOf (pageAt (now (chip .entry)) p) ⌝ }
 {
-    let a = 256 * p;
-    page::look_at(&chip[a..a + 256])
+    let at = 256 * p;
+    page::look_at(&chip[at..at + 256])
 }
 
 // All bits become 1.

@@ -25,7 +25,7 @@ use Rattle.store.specs.Ends.{blocksOf, Sized}
 use Rattle.store.specs.Calls.{mapIn, mark, lentOf, lentToStart, Holds, Kept, Store, ChangesBy, Ended, StartsBy, PutEnds, DeleteEnds, StartEnds, Came}
 use Rattle.store.specs.declared.Answer.{Answer}
 use Rattle.store.specs.declared.Answer.the-variants.{Done, Refused}
-use Rattle.store.proofs.Appends.{map-rows}
+use Rattle.store.proofs.Gets.{map-rows}
 use Rattle.store.proofs.Numbers.{sizes-hold}
 use Rattle.histories.specs.History.{Phase, off, on, started, failed, counted, History, begin, dark, start, put, delete, get, count, ToldBy, Tells}
 

@@ -27,16 +27,19 @@ pub record Lent : Type 0 where
 abbrev pub blocks : Lent → ℕ
 blocks l = l .chip / 4096
 
+-- the lengths are allowed: the chip has B * 4,096 bytes for an allowed B, and the work area is long enough
+abbrev pub sizesTest : ℕ → ℕ → Bool
+sizesTest c w = eqb (c % 4096) 0 && leb 4 (c / 4096) && leb (c / 4096) 2048 && leb (16 * (c / 4096) + 16) w
+
 module _ {A : Type 0} where
   -- refused with n where the test holds
   unfoldable pub refuse : ℕ → Bool → Answer A → Answer A
   refuse n true a = refused n
   refuse n false a = a
 
-  -- 5: the chip's length isn't B * 4,096 for an allowed B, or the work area is too short
+  -- 5
   abbrev pub sized : Lent → Answer A → Answer A
-  sized l a =
-      refuse 5 (not (eqb (l .chip % 4096) 0 && leb 4 (blocks l) && leb (blocks l) 2048 && leb (16 * blocks l + 16) (l .work))) a
+  sized l a = refuse 5 (not (sizesTest (l .chip) (l .work))) a
 
   -- 5, then 7: the power has gone since the last start; then 8: the last start answered 8, or a format came after it
   abbrev pub lent : Lent → Answer A → Answer A

@@ -27,6 +27,10 @@ use Rattle.opening.specs.declared.Room.the-variants.{Place, Gone, Stuck}
 use Rattle.opening.specs.Steps.{midway, Turns, Clears, OpensBy, Seals, Fills, Opens, RoomsBy, Rooms}
 use Rattle.opening.proofs.Runs.{seal-writable}
 
+-- memory that is ready has no more rows than there is room for
+few-rows : (B : ℕ) (c : Chip) (h y : ℕ) (ps : List ℕ) → Ready B c h y ps → length (table B c) ≤ room B
+few-rows B c h y ps r = omega (arith, r .few, ap length (r .rows), pages-length B (table B c))
+
 -- ---- THE BEGINNING
 module _ (B : ℕ) (big : 4 ≤ B) (noise c : List ℕ) (f h o : ℕ) (e : o ≡ (h + 2) % B) where
   -- no place is done yet
@@ -187,9 +191,6 @@ module _ (B n h : ℕ) (noise c ix : List ℕ) (f : ℕ) (d ix₁ : List ℕ) (g
   fills-dirty x = record { did = did-more (omega arith) (omega arith) (x .did); right = λ c₀ lit m full few. x .right c₀ lit m }
 
 module _ (B n h : ℕ) (noise c ix : List ℕ) (f : ℕ) (d : List ℕ) (g : ℕ) where
-  few-rows : Ready B (chipOf c) h 15 (take n ix) → length (table B (chipOf c)) ≤ room B
-  few-rows r = omega (arith, r .few, ap length (r .rows), pages-length B (table B (chipOf c)))
-
   -- the beginning, then the places and the seal
   pub opens-filled : (e ix₂ : List ℕ) (l : ℕ) (r : Turn) → Clears B h noise c f d g true → Fills B n h noise d g ix e l ix₂ r → Opens B n h noise c f ix e l ix₂ r
   unfolding did-more did-then
@@ -199,7 +200,7 @@ module _ (B n h : ℕ) (noise c ix : List ℕ) (f : ℕ) (d : List ℕ) (g : ℕ
         right = λ lit z.
             let p = x .right lit (z .ring) (sym (z .here)) in
             opens-after B n h (chipOf c) (resting (chipOf c) h) (midway B d h (chipOf c) 0 0) e ix₂ l (x .did .ops) (y .did .ops) r (p .3)
-            (y .right (chipOf c) (p .0) (record { opening = p .1; rows = z .rows ∙ sym (p .2) }) (sym (z .here)) (few-rows z));
+            (y .right (chipOf c) (p .0) (record { opening = p .1; rows = z .rows ∙ sym (p .2) }) (sym (z .here)) (few-rows B (chipOf c) h 15 (take n ix) z));
       }
 
   pub opens-dark : Clears B h noise c f d g false → Opens B n h noise c f ix d g ix Dark
@@ -213,9 +214,6 @@ module _ (B : ℕ) (big : 4 ≤ B) (n h x : ℕ) (noise c : List ℕ) (f : ℕ) 
     pub right : 0 < f → Ready B (chipOf c) h x (take n ix)
         → RoomsBy B n h c d g ix₁ (did .ops) (Place k y) × ((K : ℕ) × Moved B big (chipOf d) k (B - 2 - left) K)
 
-  rested : Ready B (chipOf c) h x (take n ix) → length (table B (chipOf c)) ≤ room B
-  rested r = omega (arith, r .few, ap length (r .rows), pages-length B (table B (chipOf c)))
-
   -- none yet
   pub going-none : Going c f ix h x (B - 2)
   unfolding did-more did-none
@@ -224,7 +222,7 @@ module _ (B : ℕ) (big : 4 ≤ B) (n h x : ℕ) (noise c : List ℕ) (f : ℕ) 
         did = did-more (omega arith) (omega arith) (did-none c f);
         right = λ lit r.
             let z : 0 ≡ B - 2 - (B - 2) = omega arith in
-            ((lit, r, refl, leads-none B (resting (chipOf c) h)), (0, subst (λ (j : ℕ). Moved B big (chipOf c) h j 0) z (moved-start B big (chipOf c) h (rested r))));
+            ((lit, r, refl, leads-none B (resting (chipOf c) h)), (0, subst (λ (j : ℕ). Moved B big (chipOf c) h j 0) z (moved-start B big (chipOf c) h (few-rows B (chipOf c) h x (take n ix) r))));
       }
 
   -- the head by another name

@@ -41,3 +41,11 @@ module _ (p : ℕ → Bool) where
   unfolding all
   all-of zero h = refl
   all-of (suc n) h = and-true (all p n) (p n) (all-of n (λ i l. h i (omega arith))) (h n (omega arith))
+
+  -- one that fails is enough
+  pub all-fails : (n i : ℕ) → i < n → p i ≡ false → all p n ≡ false
+  all-fails n i l e = go (all p n) refl
+    where
+      go : (b : Bool) → all p n ≡ b → b ≡ false
+      go true h = absurd (true≢false (sym (all-at n i l h) ∙ e))
+      go false h = refl

@@ -1,6 +1,6 @@
 -- The lowest number of which a test does not hold. Assumes nothing.
 use mathlib.Core.Path.{_≡_, refl, sym, ap, _∙_}
-use mathlib.Core.Bool.{Bool, true, false, cond, _&&_, true≢false}
+use mathlib.Core.Bool.{Bool, true, false, cond}
 use mathlib.Core.List.{List}
 use Prim.Native.Nat.{ℕ, zero, suc, _+_, _≤_, _<_}
 use native.Mathlib.Decide.{ℕ-discrete}
@@ -9,17 +9,9 @@ use Rattle.page.specs.Page.{all, blank, sound}
 use Rattle.page.specs.Look.{agree, lowest, lookOf, Apart}
 use Rattle.page.specs.declared.Look.{Look}
 use Rattle.page.specs.declared.Look.the-variants.{Blank, Sound, Spoilt}
-use Rattle.page.proofs.All.{all-at}
+use Rattle.page.proofs.All.{all-fails}
 
 module _ (p : ℕ → Bool) where
-  -- one that fails is enough
-  pub all-fails : (n i : ℕ) → i < n → p i ≡ false → all p n ≡ false
-  all-fails n i l e = go (all p n) refl
-    where
-      go : (b : Bool) → all p n ≡ b → b ≡ false
-      go true h = absurd (true≢false (sym (all-at p n i l h) ∙ e))
-      go false h = refl
-
   -- it holds below i, and not of i
   pub lowest-is : (n i : ℕ) → i < n → all p i ≡ true → p i ≡ false → lowest p n ≡ i
   unfolding lowest
@@ -28,21 +20,7 @@ module _ (p : ℕ → Bool) where
     where
       go : Dec (i ≡ n) → (i < n → lowest p n ≡ i) → cond (all p n) (cond (p n) (suc n) n) (lowest p n) ≡ i
       go (yes d) f = rw (sym (ap (all p) d) ∙ a, sym (ap p d) ∙ e) (sym d)
-      go (no d) f = rw (all-fails n i (omega arith) e) (f (omega arith))
-
-  -- it holds of all
-  pub lowest-none : (n : ℕ) → all p n ≡ true → lowest p n ≡ n
-  unfolding lowest all
-  lowest-none zero a = refl
-  lowest-none (suc n) a = rw (and-first (all p n) (p n) a, and-second (all p n) (p n) a)
-    where
-      and-first : (x y : Bool) → (x && y) ≡ true → x ≡ true
-      and-first true y e = refl
-      and-first false y e = e
-
-      and-second : (x y : Bool) → (x && y) ≡ true → y ≡ true
-      and-second true y e = e
-      and-second false y e = absurd (true≢false (sym e))
+      go (no d) f = rw (all-fails p n i (omega arith) e) (f (omega arith))
 
 module _ (pg : List ℕ) where
   pub look-blank : blank pg ≡ true → Blank ≡ lookOf pg

@@ -21,7 +21,7 @@ use Rattle.log.specs.Ring.{Chip, chipOf, Ring, next, tableAt, table, mapOf, hea
 use Rattle.log.specs.Call.{resting, Wrote, CutWrote, Trace, append, append-cut}
 use Rattle.log.specs.Answers.{missing}
 use Rattle.log.proofs.MapLaws.{orZero}
-use Rattle.log.proofs.MapMore.{length-mapV, sorted-mapV}
+use Rattle.log.proofs.MapMore.{sorted-mapV}
 use Rattle.log.proofs.Index.{pages-length}
 use Rattle.log.proofs.RingLaws.{next-blank}
 use Rattle.log.proofs.Append.{table-sorted, place, place-page, put-table, put-map, put-ready}
@@ -42,6 +42,7 @@ use Rattle.store.specs.Calls.{number}
 use Rattle.store.specs.Changes.{isMissing, denial, denialIn, AppendsBy, Appends, AltersBy, Alters}
 use Rattle.store.proofs.Runs.{record-writable}
 use Rattle.store.proofs.Rows.{found-value, missed-value}
+use Rattle.store.proofs.Gets.{map-rows}
 
 -- ---- THE MAP AND ITS COUNT
 
@@ -50,12 +51,7 @@ pub map-sorted : (B : ℕ) → 4 ≤ B → (c : Chip) (h : ℕ) → Ring B c h �
 unfolding mapOf
 map-sorted B big c h r = sorted-mapV (λ (a : Placed). a .1) (table B c) (table-sorted B big c h r)
 
--- it has as many keys as the table
-pub map-rows : (B : ℕ) (c : Chip) → length (mapOf B c) ≡ length (table B c)
-unfolding mapOf
-map-rows B c = length-mapV (λ (a : Placed). a .1) (table B c)
-
--- and as memory has entries
+-- it has as many keys as memory has entries
 pub ready-count : (B : ℕ) (c : Chip) (h y : ℕ) (ps : List ℕ) → Ready B c h y ps → length (mapOf B c) ≡ length ps
 ready-count B c h y ps r = map-rows B c ∙ sym (pages-length B (table B c)) ∙ ap length (sym (r .rows))
 

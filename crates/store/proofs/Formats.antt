@@ -18,7 +18,8 @@ use Rattle.log.proofs.Bytes.{whole-erased}
 use Rattle.log.proofs.Start.{blank-map}
 use Rattle.store.specs.Ends.{blocksOf, Sized}
 use Rattle.store.specs.Calls.{mark, lentOf, Formats}
-use Rattle.store.specs.Reads.{sizesTest, Clears}
+use Rattle.log.specs.Answers.{sizesTest}
+use Rattle.store.specs.Reads.{Clears}
 use Rattle.store.proofs.Numbers.{sizes-hold}
 use Rattle.store.specs.declared.Answer.the-variants.{Done, Refused}
 

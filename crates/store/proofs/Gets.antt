@@ -8,7 +8,7 @@ use lib.Seq.{length-take-le, take-all}
 use borrow.Rule.Slice.PartMut.{midOf}
 use Rattle.log.specs.Map.{lookup}
 use Rattle.log.specs.Log.{Placed}
-use Rattle.log.specs.Ring.{chipOf, table, mapOf}
+use Rattle.log.specs.Ring.{Chip, chipOf, table, mapOf}
 use Rattle.log.specs.Answers.{lent, refused, done, countAnswer, gotten, getAnswer}
 use Rattle.log.specs.Answers.{Answer as Says}
 use Rattle.log.proofs.MapMore.{length-mapV}
@@ -25,14 +25,14 @@ pub index-length : (c w : List ℕ) → Sized c w → Holds c w → length (take
 index-length c w s h = length-take-le (getD w 3 0) (drop 16 w) (omega (arith, h .few, s .long, length-drop 16 w))
 
 -- the map has as many keys as the table
-pub map-length : (c : List ℕ) → length (mapIn c) ≡ length (table (blocksOf c) (chipOf c))
+pub map-rows : (B : ℕ) (c : Chip) → length (mapOf B c) ≡ length (table B c)
 unfolding mapOf
-map-length c = length-mapV (λ (a : Placed). a .1) (table (blocksOf c) (chipOf c))
+map-rows B c = length-mapV (λ (a : Placed). a .1) (table B c)
 
 -- and as the area says
 pub map-count : (c w : List ℕ) → Sized c w → Holds c w → length (mapIn c) ≡ getD w 3 0
 map-count c w s h =
-    map-length c ∙ sym (pages-length (blocksOf c) (table (blocksOf c) (chipOf c))) ∙ ap length (sym (h .ready .rows)) ∙ index-length c w s h
+    map-rows (blocksOf c) (chipOf c) ∙ sym (pages-length (blocksOf c) (table (blocksOf c) (chipOf c))) ∙ ap length (sym (h .ready .rows)) ∙ index-length c w s h
 
 -- a number above 0 is answered as a refusal
 pub due-refused : {A : Type 0} (k : ℕ) (a : Says A) → 0 < k → due k a ≡ refused k

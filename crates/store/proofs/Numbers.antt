@@ -15,7 +15,7 @@ use Rattle.log.specs.Answers.{Answer as Says}
 use Rattle.log.proofs.RingLaws.{next-le}
 use Rattle.store.specs.Ends.{blocksOf, Sized, Checked, Keyed}
 use Rattle.store.specs.Calls.{mark, lentOf, Holds, number, lentNumber, keyNumber, due, Tested}
-use Rattle.store.specs.Reads.{sizesTest}
+use Rattle.log.specs.Answers.{sizesTest}
 
 -- ---- the lengths
 

@@ -30,9 +30,9 @@ use Rattle.store.specs.declared.Change.{Change}
 use Rattle.store.specs.declared.Change.the-variants.{Made, Denied, Lost, Broken}
 use Rattle.store.proofs.Runs.{lent-same, lent-before}
 use Rattle.store.proofs.Numbers.{lent-due, keyed-due, keyed-only}
-use Rattle.store.proofs.Gets.{due-refused}
+use Rattle.store.proofs.Gets.{map-rows, due-refused}
 use Rattle.store.proofs.Area.{downed, downed-0, downed-1, downed-2, downed-3, downed-16, back-long, back-index}
-use Rattle.store.proofs.Appends.{map-sorted, map-rows, ready-count, alter-fits}
+use Rattle.store.proofs.Appends.{map-sorted, ready-count, alter-fits}
 
 -- ---- WHAT CAME OF IT
 module _ (c : List ℕ) (big : 4 ≤ blocksOf c) (note : Bool) (key value noise : List ℕ) (f : ℕ) (c′ : List ℕ) (f′ : ℕ) where

@@ -27,7 +27,7 @@ use Rattle.index.specs.Index.{keysOf, Ordered}
 use Rattle.index.specs.Answers.{Within, FindsBy, Finds}
 use Rattle.index.specs.declared.Found.{Found}
 use Rattle.index.specs.declared.Found.the-variants.{At, Missing}
-use Rattle.index.proofs.Rows.{none-there, rows-ordered, entry-inside, nth, length-rows, before, behind}
+use Rattle.index.proofs.Rows.{none-there, table-ordered, entry-inside, nth, length-rows, before, behind}
 use Rattle.store.specs.Ends.{blocksOf}
 use Rattle.store.specs.Calls.{mapIn, Gets}
 use Rattle.store.specs.Reads.{Fetches}
@@ -69,9 +69,7 @@ module _ (B : ℕ) (big : 4 ≤ B) (c : List ℕ) (size : length c ≡ 4096 * B)
 -- ---- THE INDEX OF A CHIP
 module _ (c ps : List ℕ) (big : 4 ≤ blocksOf c) (size : length c ≡ 4096 * blocksOf c) (same : ps ≡ pages (blocksOf c) (table (blocksOf c) (chipOf c))) where
   pub index-ordered : Ordered c ps
-  unfolding table tableAt
-  index-ordered =
-      subst (Ordered c) (sym same) (rows-ordered (blocksOf c) big c size (head (blocksOf c) (chipOf c) + blocksOf c) (15 * (head (blocksOf c) (chipOf c) + blocksOf c) + 15))
+  index-ordered = subst (Ordered c) (sym same) (table-ordered (blocksOf c) big c size)
 
   module _ (k : Key) (i : ℕ) where
     pub index-value : Finds (keysOf c ps) k (At i) → lookup k (mapIn c) ≡ some (valueAt c (getD ps i 0))

@@ -1,26 +1,18 @@
 -- The loops of start that read seals: the head, the next place, the test for a ring. Assumes nothing.
 use mathlib.Core.Path.{_≡_, refl, sym, ap, _∙_}
-use mathlib.Core.Bool.{Bool, true, false, cond, not, _&&_, _||_, true≢false}
+use mathlib.Core.Bool.{Bool, true, false, cond, not, _&&_, _||_}
 use Prim.Native.Nat.{ℕ, zero, suc, _+_, _-_, _*_, _%_, _≤_, _<_}
 use native.Mathlib.Omega.{arith}
 use lib.Dec.{eqb}
 use borrow.Author.Tests.{le-leb}
 use Rattle.page.specs.Page.{all}
-use Rattle.page.proofs.All.{all-at, all-more}
+use Rattle.page.proofs.All.{all-fails, all-more}
 use Rattle.log.specs.Ring.{Chip, sealed, headFrom, head, firstTest, laterTest, ringTest, nextTo}
 use Rattle.store.specs.Scan.{sealedBelow, blankFrom}
 
 -- ---- tests of all blocks, or of all pages
 
 module _ (p : ℕ → Bool) where
-  -- one that fails is enough
-  pub all-fails : (n i : ℕ) → i < n → p i ≡ false → false ≡ all p n
-  all-fails n i l e = go (all p n) refl
-    where
-      go : (b : Bool) → all p n ≡ b → false ≡ b
-      go true a = absurd (true≢false (sym (all-at p n i l a) ∙ e))
-      go false a = refl
-
   -- one more that holds
   pub all-next : (i : ℕ) → all p i ≡ true → p i ≡ true → all p (i + 1) ≡ true
   all-next i a e = sym (all-more p i true true (sym a) (sym e))
@@ -97,7 +89,7 @@ module _ (c : Chip) where
 
     pub blank-fails : (end : ℕ) → p < end → c .full p ≡ true → false ≡ blankFrom c from (end - from)
     blank-fails end m e =
-        all-fails (λ i. not (c .full (from + i))) (end - from) (p - from) (omega arith) (ap (λ (k : ℕ). not (c .full k)) (omega arith) ∙ ap not e)
+        sym (all-fails (λ i. not (c .full (from + i))) (end - from) (p - from) (omega arith) (ap (λ (k : ℕ). not (c .full k)) (omega arith) ∙ ap not e))
 
   -- none of them yet, and all of them
   pub blank-none : (p : ℕ) → blankFrom c p (p - p) ≡ true

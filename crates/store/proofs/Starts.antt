@@ -18,10 +18,11 @@ use Rattle.log.proofs.RingLaws.{test-ring}
 use Rattle.log.proofs.Index.{pages-length}
 use Rattle.store.specs.Ends.{blocksOf, Sized}
 use Rattle.store.specs.Calls.{mapIn, mark, lentToStart, Holds, Starts}
-use Rattle.store.specs.Reads.{sizesTest, ReadyFor, ReadiesBy, Readies}
+use Rattle.log.specs.Answers.{sizesTest}
+use Rattle.store.specs.Reads.{ReadyFor, ReadiesBy, Readies}
 use Rattle.store.proofs.Area.{downed, downed-1, downed-2, downed-3, downed-16, back-long, back-index}
 use Rattle.store.proofs.Numbers.{sizes-hold}
-use Rattle.store.proofs.Gets.{map-length}
+use Rattle.store.proofs.Gets.{map-rows as map-table}
 use Rattle.store.specs.declared.Answer.{Answer}
 use Rattle.store.specs.declared.Answer.the-variants.{Done, Refused}
 
@@ -135,7 +136,7 @@ module _ (c : List ℕ) (f : ℕ) (w w′ : List ℕ) where
       -- the keys of the map are those of the table of the head
       map-rows : length (mapIn c) ≡ length (tableAt (blocksOf c) (chipOf c) h)
       unfolding table
-      map-rows = map-length c ∙ ap (λ (x : ℕ). length (tableAt (blocksOf c) (chipOf c) x)) (sym at-head)
+      map-rows = map-table (blocksOf c) (chipOf c) ∙ ap (λ (x : ℕ). length (tableAt (blocksOf c) (chipOf c) x)) (sym at-head)
 
       both-tests : (t x y : Bool) → t ≡ ringTest b (chipOf c) h → t ≡ x → leb (length (mapIn c)) (room (blocksOf c)) ≡ y
           → (ringTest (blocksOf c) (chipOf c) (head (blocksOf c) (chipOf c)) && leb (length (mapIn c)) (room (blocksOf c))) ≡ (x && y)

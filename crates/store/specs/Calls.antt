@@ -3,15 +3,15 @@
 use mathlib.Core.Path.{_≡_}
 use mathlib.Core.Logic.{_≢_, _⊎_}
 use mathlib.Core.List.{List, []}
-use mathlib.Core.Bool.{Bool, true, false, not, _&&_, _||_}
-use Prim.Native.Nat.{ℕ, zero, suc, _+_, _*_, _/_, _%_, _≤_, _<_}
+use mathlib.Core.Bool.{Bool, true, false, not, _||_}
+use Prim.Native.Nat.{ℕ, zero, suc, _+_, _*_, _/_, _≤_, _<_}
 use lib.Dec.{eqb, leb}
 use lib.ListN.{length, take, drop, getD}
 use Rattle.chip.specs.Play.{Op, erases, writes, Did}
 use Rattle.record.specs.Record.{Rec, recordOf}
 use Rattle.log.specs.Map.{Map}
 use Rattle.log.specs.Ring.{chipOf, head, Ring, mapOf, room, Ready}
-use Rattle.log.specs.Answers.{Lent, blocks, refused, done, putAnswer, getAnswer, deleteAnswer, countAnswer, startAnswer, formatAnswer}
+use Rattle.log.specs.Answers.{Lent, sizesTest, refused, done, putAnswer, getAnswer, deleteAnswer, countAnswer, startAnswer, formatAnswer}
 use Rattle.log.specs.Answers.{Answer as Says}
 use Rattle.log.specs.Call.{resting, Trace, After}
 use Rattle.store.specs.Ends.{blocksOf, Sized, Checked, RefusedKept}
@@ -54,9 +54,7 @@ number n true k = n
 number n false k = k
 
 abbrev pub lentNumber : Lent → ℕ → ℕ
-lentNumber l k =
-    number 5 (not (eqb (l .chip % 4096) 0 && leb 4 (blocks l) && leb (blocks l) 2048 && leb (16 * blocks l + 16) (l .work)))
-    (number 7 (l .dark) (number 8 (not (l .ready)) k))
+lentNumber l k = number 5 (not (sizesTest (l .chip) (l .work))) (number 7 (l .dark) (number 8 (not (l .ready)) k))
 
 abbrev pub keyNumber : List ℕ → List ℕ → ℕ
 keyNumber key value = number 1 (eqb (length key) 0 || leb 17 (length key)) (number 2 (leb 97 (length value)) 0)

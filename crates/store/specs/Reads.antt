@@ -1,9 +1,8 @@
 -- What the steps of start, get, count and format answer. Assumes nothing.
 use mathlib.Core.Path.{_≡_}
 use mathlib.Core.List.{List}
-use mathlib.Core.Bool.{Bool, true, false, _&&_}
-use Prim.Native.Nat.{ℕ, _+_, _*_, _/_, _%_, _≤_, _<_}
-use lib.Dec.{eqb, leb}
+use mathlib.Core.Bool.{Bool, true, false}
+use Prim.Native.Nat.{ℕ, _*_, _≤_, _<_}
 use lib.ListN.{length, take, drop, getD}
 use Rattle.log.specs.Map.{lookup}
 use Rattle.log.specs.Log.{pages}
@@ -13,10 +12,6 @@ use Rattle.store.specs.Ends.{blocksOf}
 use Rattle.store.specs.Calls.{mapIn, mark, Gets}
 use Rattle.store.specs.declared.Answer.{Answer}
 use Rattle.store.specs.declared.Answer.the-variants.{Done, Refused}
-
--- the lengths of chip and work area are allowed: the test of refusal 5
-abbrev pub sizesTest : ℕ → ℕ → Bool
-sizesTest c w = eqb (c % 4096) 0 && leb 4 (c / 4096) && leb (c / 4096) 2048 && leb (16 * (c / 4096) + 16) w
 
 -- what count answers of any area: the number of keys that stands there
 abbrev pub CountedBy : List ℕ → Answer → Type 0

@@ -16,14 +16,14 @@ ghost use Rattle.chip.specs.Play.{Did};
 ghost use Rattle.record.specs.Record.{recordOf, valueAt};
 ghost use Rattle.log.specs.Log.{pages};
 ghost use Rattle.log.specs.Ring.{chipOf, head, laterTest, ringTest, tableAt, nextTo, room};
-ghost use Rattle.log.specs.Answers.{gotten};
+ghost use Rattle.log.specs.Answers.{sizesTest, gotten};
 ghost use Rattle.index.specs.Answers.{Within};
 ghost use Rattle.opening.specs.Ends.{Sane};
 ghost use Rattle.store.specs.Scan.{sealedBelow, blankFrom, Replays};
 ghost use Rattle.store.specs.Ends.{blocksOf, Sized, Checked, Keyed, ChangeWithin, Undenied, ChangeKept, Got};
 ghost use Rattle.store.specs.Calls.{keyNumber, Tested, Gets, PutEnds, DeleteEnds, GetEnds, CountEnds, StartEnds, FormatEnds};
 ghost use Rattle.store.specs.Changes.{isMissing, denial, Appends, Alters, Runs};
-ghost use Rattle.store.specs.Reads.{sizesTest, Counted, Fetches, Readies, Clears};
+ghost use Rattle.store.specs.Reads.{Counted, Fetches, Readies, Clears};
 
 // How a call ended: it is done, with a number for those that answer one; or it was refused, with document 01's number.
 pub enum Answer {

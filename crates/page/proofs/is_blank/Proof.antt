@@ -1,23 +1,14 @@
 -- `page::is_blank` meets its contract. The invariant: `ok` says whether the bytes passed are all 0xFF. Assumes nothing.
-use mathlib.Core.Path.{_≡_, refl, sym, _∙_}
-use mathlib.Core.Bool.{Bool, true, false, true≢false}
-use Prim.Native.Nat.{ℕ, _≤_, _<_, _-_}
+use mathlib.Core.Path.{_≡_, refl, sym}
+use Prim.Native.Nat.{_≤_, _-_}
 use native.Mathlib.Omega.{arith}
 use lib.Dec.{eqb}
 use borrow.Author.Tests.{ne-eqb}
 use Rattle.page.specs.Page.{byte, all, blank}
-use Rattle.page.proofs.All.{all-more, all-done, all-at}
+use Rattle.page.proofs.All.{all-more, all-done, all-fails}
 use borrow.Author.Needs.{needs}
 use Rattle.page.proofs.is_blank.Statement.{statement}
 use Rattle.page.proofs.is_blank.Tie as tie
-
--- one that fails is enough
-fails : (p : ℕ → Bool) (n i : ℕ) → i < n → p i ≡ false → false ≡ all p n
-fails p n i l e = go (all p n) refl
-  where
-    go : (b : Bool) → all p n ≡ b → false ≡ b
-    go true h = absurd (true≢false (sym (all-at p n i l h) ∙ e))
-    go false h = refl
 
 abbrev Inv-loop : tie.InvT-loop
 Inv-loop page ok₀ i₀ ok i = (i ≤ 256) × (ok ≡ all (λ k. eqb (byte page k) 255) i)
@@ -27,7 +18,7 @@ abbrev μ-loop : tie.MeasureT-loop
 
 returns : tie.Need-returns Inv-loop μ-loop
 unfolding blank
-returns c = fails (λ k. eqb (byte (c .before .before .args .page .now) k) 255) 256 0 (omega arith) (ne-eqb (byte (c .before .before .args .page .now) 0) 255 (c .if1 .taken))
+returns c = sym (all-fails (λ k. eqb (byte (c .before .before .args .page .now) k) 255) 256 0 (omega arith) (ne-eqb (byte (c .before .before .args .page .now) 0) 255 (c .if1 .taken)))
 
 loop-holds : tie.Need-loop-holds Inv-loop μ-loop
 unfolding all

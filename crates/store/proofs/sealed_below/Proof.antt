@@ -6,7 +6,8 @@ use native.Mathlib.Omega.{arith}
 use borrow.Author.Tests.{not-true, not-false}
 use Rattle.log.specs.Ring.{chipOf, sealed}
 use Rattle.store.specs.Scan.{sealedBelow}
-use Rattle.store.proofs.Scan.{all-none, all-next, all-fails, all-through}
+use Rattle.page.proofs.All.{all-fails}
+use Rattle.store.proofs.Scan.{all-none, all-next, all-through}
 use borrow.Author.Needs.{needs}
 use Rattle.store.proofs.sealed_below.Statement.{statement}
 use Rattle.store.proofs.sealed_below.Tie as tie
@@ -21,7 +22,7 @@ loop-holds : tie.Need-loop-holds Inv-loop μ-loop
 loop-holds c = (omega arith, all-none (sealed (chipOf (c .before .args .chip .now))))
 
 returns : tie.Need-returns Inv-loop μ-loop
-returns c = all-fails (sealed (chipOf (c .before .before .before .before .before .args .chip .now))) (c .before .before .before .before .before .args .h) (c .before .before .before .loop .x) (omega arith) (sym (c .before .sealed .ensures) ∙ not-true _ (c .if1 .taken))
+returns c = sym (all-fails (sealed (chipOf (c .before .before .before .before .before .args .chip .now))) (c .before .before .before .before .before .args .h) (c .before .before .before .loop .x) (omega arith) (sym (c .before .sealed .ensures) ∙ not-true _ (c .if1 .taken)))
 
 loop-again : tie.Need-loop-again Inv-loop μ-loop
 loop-again c = (omega arith, all-next (sealed (chipOf (c .before .before .before .before .before .args .chip .now))) (c .before .before .before .loop .x) (c .before .before .before .loop .inv .1) (sym (c .before .sealed .ensures) ∙ not-false _ (c .if1 .left)))

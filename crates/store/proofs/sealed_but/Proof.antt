@@ -1,11 +1,12 @@
 -- `store::sealed_but` meets its contract. The invariant: the blocks passed are sealed, but for the two. Assumes nothing.
-use mathlib.Core.Path.{_≡_, _∙_}
+use mathlib.Core.Path.{_≡_, sym, _∙_}
 use mathlib.Core.Bool.{true, false}
 use Prim.Native.Nat.{_-_, _≤_}
 use native.Mathlib.Omega.{arith}
 use Rattle.page.specs.Page.{all}
 use Rattle.log.specs.Ring.{chipOf}
-use Rattle.store.proofs.Scan.{all-none, all-next, all-fails, all-through, but, but-test, later-is}
+use Rattle.page.proofs.All.{all-fails}
+use Rattle.store.proofs.Scan.{all-none, all-next, all-through, but, but-test, later-is}
 use borrow.Author.Needs.{needs}
 use Rattle.store.proofs.sealed_but.Statement.{statement}
 use Rattle.store.proofs.sealed_but.Tie as tie
@@ -21,7 +22,7 @@ loop-holds c = (omega arith, all-none (but (chipOf (c .before .before .args .chi
 
 returns : tie.Need-returns Inv-loop μ-loop
 returns c = let k = chipOf (c .before .before .before .before .before .before .args .chip .now) in let s = c .before .before .before .before .block-after .result in
-    all-fails (but k (c .before .before .before .before .before .before .args .h) s) (c .before .before .before .before .before .before .args .b) (c .before .before .before .loop .x) (omega arith) (but-test k (c .before .before .before .before .before .before .args .h) s (c .before .before .before .loop .x) _ true (c .before .sealed .ensures) (c .if1 .taken))
+    sym (all-fails (but k (c .before .before .before .before .before .before .args .h) s) (c .before .before .before .before .before .before .args .b) (c .before .before .before .loop .x) (omega arith) (but-test k (c .before .before .before .before .before .before .args .h) s (c .before .before .before .loop .x) _ true (c .before .sealed .ensures) (c .if1 .taken)))
     ∙ later-is k (c .before .before .before .before .before .before .args .b) (c .before .before .before .before .before .before .args .h) s (c .before .before .before .before .block-after .ensures .0)
 
 loop-again : tie.Need-loop-again Inv-loop μ-loop
