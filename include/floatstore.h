@@ -49,7 +49,7 @@ extern "C" {
 #define FLOATSTORE_BLOCK 4096u /* bytes of a block: 16 pages */
 #define FLOATSTORE_NOISE 4096u /* bytes of noise */
 #define FLOATSTORE_MIN_BLOCKS 4u
-#define FLOATSTORE_MAX_BLOCKS 2048u
+#define FLOATSTORE_MAX_BLOCKS 4096u
 #define FLOATSTORE_MAX_KEY 16u /* bytes of a key, at least 1 */
 #define FLOATSTORE_MAX_VALUE 96u /* bytes of a value, 0 and more: a buffer of so many is long enough for every get */
 

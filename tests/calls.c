@@ -1,4 +1,4 @@
-/* The six calls from C, and the start that says what it saw: both sides of each limit of document 01, sections 3 and 5, on chips of up to 2,048 blocks, and one key put a million times. */
+/* The six calls from C, and the start that says what it saw: both sides of each limit of document 01, sections 3 and 5, on chips of up to 4,096 blocks, and one key put a million times. */
 #include <floatstore.h>
 #include <stdio.h>
 #include <stdlib.h>
@@ -59,7 +59,7 @@ static void all_refused(int k) {
 }
 
 static void sizes(void) {
-    static const size_t bad[] = {0, 1, 2, 3, 2049};
+    static const size_t bad[] = {0, 1, 2, 3, 4097};
     for (size_t i = 0; i < sizeof bad / sizeof bad[0]; i++) {
         lend(bad[i]);
         IS(-5, start());
@@ -226,8 +226,8 @@ int main(void) {
     power();
     fill(4);
     fill(5);
-    fill(2048);
+    fill(4096);
     million();
-    printf("calls from C: %s\n", wrong ? "FAILED" : "as documented, with B = 4 and 2,048 accepted, 3 and 2,049 refused");
+    printf("calls from C: %s\n", wrong ? "FAILED" : "as documented, with B = 4 and 4,096 accepted, 3 and 4,097 refused");
     return wrong != 0;
 }

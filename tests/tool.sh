@@ -77,7 +77,7 @@ chmod 640 a.img && says '' delete a.img by
 [ "$(stat -c %a a.img)" = 640 ] || complain "the mode of a.img changed"
 says '' format a.img && says 0 count a.img
 says '' format a.img 4
-says '' format big.img 2048 && says 0 count big.img && has 'room for 16368 keys' check big.img && rm big.img
+says '' format big.img 4096 && says 0 count big.img && has 'room for 32752 keys' check big.img && rm big.img
 
 # ---- the ring goes round, and the power fails
 for i in $(seq 1 70); do tool put a.img "k$((i % 9))" "$i" || complain "put $i"; done
@@ -115,7 +115,7 @@ fails 'not a file' format folder 4
 fails '5000 bytes is no chip' count odd.img
 fails "12288 bytes is no chip" check three.img
 fails 'refused (5)' format new.img 3
-fails 'refused (5)' format new.img 2049
+fails 'refused (5)' format new.img 4097
 fails 'another size' format a.img 5
 fails "'four' is no number" format new.img four
 fails "'-4' is no number" format new.img -4

@@ -50,5 +50,6 @@ int main(void) {
     measure(16);
     measure(512);
     measure(2048);
+    measure(4096);
     return 0;
 }

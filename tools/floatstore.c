@@ -1,4 +1,4 @@
-/* floatstore: chip images on shore. An image is a file of the chip's bytes, 4,096 for each of its 4 to 2,048 blocks. */
+/* floatstore: chip images on shore. An image is a file of the chip's bytes, 4,096 for each of its 4 to 4,096 blocks. */
 #define _XOPEN_SOURCE 700
 #include "reading.h"
 #include <errno.h>
@@ -15,7 +15,7 @@
 static const char help_text[] =
     "floatstore: look into the image of a float's chip, and change it\n"
     "\n"
-    "  floatstore format IMAGE [B]         an empty store; with B (4 to 2048 blocks) the image may be a new file\n"
+    "  floatstore format IMAGE [B]         an empty store; with B (4 to 4096 blocks) the image may be a new file\n"
     "  floatstore put IMAGE KEY VALUE      the key has this value from now on\n"
     "  floatstore get IMAGE KEY            its value\n"
     "  floatstore delete IMAGE KEY         the key has no value any more\n"
@@ -49,7 +49,7 @@ static const char *refusal_words(int64_t number) {
         "a value has at most 96 bytes",
         "no room: the store has as many keys as it can hold",
         "the key has no value",
-        "a chip has 4 to 2048 blocks of 4096 bytes",
+        "a chip has 4 to 4096 blocks of 4096 bytes",
         "the buffer is shorter than the value",
         "the power has gone",
         "these bytes are no store; format makes an empty one",
@@ -90,7 +90,7 @@ static void load(const char *name) {
     if (fstat(fileno(file), &about) != 0 || !S_ISREG(about.st_mode)) die("%s: not a file", name);
     size_t len = (size_t)about.st_size;
     if (len % FLOATSTORE_BLOCK || len / FLOATSTORE_BLOCK < FLOATSTORE_MIN_BLOCKS || len / FLOATSTORE_BLOCK > FLOATSTORE_MAX_BLOCKS)
-        die("%s: %zu bytes is no chip's size: 4 to 2048 blocks of 4096", name, len);
+        die("%s: %zu bytes is no chip's size: 4 to 4096 blocks of 4096", name, len);
     make_room(name, len / FLOATSTORE_BLOCK);
     if (fread(image.chip, 1, len, file) != len) die("%s: %s", name, ferror(file) ? strerror(errno) : "shorter than it was");
     fclose(file);

@@ -3,6 +3,7 @@
 #ifndef WATCH_H
 #define WATCH_H
 
+#include <floatstore.h>
 #include <stddef.h>
 #include <stdint.h>
 
@@ -30,7 +31,7 @@ const char *watch(struct op *ops, size_t max, size_t *len, call *c, const void *
 
 /* Erases, by block and in all. An erase that wasn't seen is counted for the block where the next record is written. */
 struct wear {
-    size_t of[2048], unseen, all;
+    size_t of[FLOATSTORE_MAX_BLOCKS], unseen, all;
 };
 void count_wear(struct wear *wear, const struct op *ops, size_t len);
 

@@ -18,7 +18,7 @@ enum { PLACES = 15, PAGE = 256, BLOCK = 4096, VALUE = 1, NOTE = 2, SEAL = 3 };
 
 static size_t blocks(size_t chip_len, size_t work_len) {
     size_t b = chip_len / BLOCK;
-    return chip_len % BLOCK == 0 && 4 <= b && b <= 2048 && work_len >= 16 * b + 16 ? b : 0;
+    return chip_len % BLOCK == 0 && 4 <= b && b <= 4096 && work_len >= 16 * b + 16 ? b : 0;
 }
 
 /* ---- the chip */

@@ -1,5 +1,5 @@
 // Both sides of each limit of document 01: its section 5 line by line, the refusals of section 3, and of section 6 the danger that rubbish takes the room.
-// B = 2,048 and 2,049 are left out: a chip of 8 MiB doesn't fit the stack of a program.
+// B = 4,096 and 4,097 are left out: a chip of 16 MiB doesn't fit the stack of a program.
 use libc::STDOUT_FILENO;
 use store::Answer;
 

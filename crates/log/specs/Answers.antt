@@ -8,7 +8,7 @@ use lib.Dec.{eqb, leb}
 use lib.ListN.{length, drop}
 use Rattle.log.specs.Key.{Key}
 use Rattle.log.specs.Map.{Map, lookup, alter}
-use Rattle.log.specs.Ring.{Chip, head, ringTest, mapOf, room}
+use Rattle.log.specs.Ring.{Chip, head, ringTest, mapOf, room, mostBlocks}
 
 -- what a call answers: the number of a refusal, or that it is done, and what came of it
 pub data Answer (A : Type 0) : Type 0 where
@@ -29,7 +29,7 @@ blocks l = l .chip / 4096
 
 -- the lengths are allowed: the chip has B * 4,096 bytes for an allowed B, and the work area is long enough
 abbrev pub sizesTest : ℕ → ℕ → Bool
-sizesTest c w = eqb (c % 4096) 0 && leb 4 (c / 4096) && leb (c / 4096) 2048 && leb (16 * (c / 4096) + 16) w
+sizesTest c w = eqb (c % 4096) 0 && leb 4 (c / 4096) && leb (c / 4096) mostBlocks && leb (16 * (c / 4096) + 16) w
 
 module _ {A : Type 0} where
   -- refused with n where the test holds

@@ -91,6 +91,10 @@ nextTo c h (suc n) = cond (c .full (16 * h + n)) (suc n) (nextTo c h n)
 abbrev pub next : Chip → ℕ → ℕ
 next c h = nextTo c h 15
 
+-- the most blocks that a chip of a store has
+abbrev pub mostBlocks : ℕ
+mostBlocks = 4096
+
 -- how many keys a store of B blocks holds
 abbrev pub room : ℕ → ℕ
 room B = 8 * (B - 2)

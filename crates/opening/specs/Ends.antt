@@ -3,6 +3,7 @@ use mathlib.Core.Path.{_≡_}
 use mathlib.Core.List.{List}
 use Prim.Native.Nat.{ℕ, _*_, _≤_, _<_}
 use lib.ListN.{length}
+use Rattle.log.specs.Ring.{mostBlocks}
 use Rattle.opening.specs.declared.Live.{Live}
 use Rattle.opening.specs.declared.Live.the-variants.{Yes, No}
 use Rattle.opening.specs.declared.Turn.{Turn}
@@ -13,7 +14,7 @@ use Rattle.opening.specs.declared.Room.the-variants.{Place, Gone, Stuck}
 -- a chip of B blocks with the head h, an index of n entries, and noise: ranges alone, which the public calls test
 pub record Sane (B : ℕ) (c ix noise : List ℕ) (n h : ℕ) : Type 0 where
   pub some-blocks : 4 ≤ B
-  pub few-blocks : B ≤ 2048
+  pub few-blocks : B ≤ mostBlocks
   pub size : length c ≡ 4096 * B
   pub entries : n ≤ length ix
   pub loud : length noise ≡ 4096

@@ -9,6 +9,7 @@ ghost use Rattle.chip.specs.Chip.{pageAt};
 ghost use Rattle.record.specs.Record.{recAt};
 ghost use Rattle.record.specs.Kinds.{kindOf};
 ghost use Rattle.record.specs.declared.Kind.the-variants.{Value};
+ghost use Rattle.log.specs.Ring.{mostBlocks};
 ghost use Rattle.opening.specs.Ends.{Sane, LiveWithin, Few, RoomWithin};
 ghost use Rattle.opening.specs.Steps.{Judges, Carries, Turns, Clears, Seals, Fills, Opens, Rooms};
 
@@ -17,7 +18,7 @@ pub const PLACES: usize = 15;
 
 // The block k after block h of the ring.
 pub fn block_after(h: usize, k: usize, b: usize) -> usize
-    requires { ⌜ (h < b) × (k ≤ 2) × (b ≤ 2048) × (4 ≤ b) ⌝ }
+    requires { ⌜ (h < b) × (k ≤ 2) × (b ≤ mostBlocks) × (4 ≤ b) ⌝ }
     ensures { λ r. ⌜ (r ≡ (h + k) % b) × (r < b) ⌝ }
 {
     (h + k) % b
@@ -174,7 +175,7 @@ fn clean(
 
 // The spare is erased, if the oldest block is sealed: in the first round it is blank, and a cut erase could leave it looking sealed. Answers whether the power stayed.
 fn clear_spare(chip: &mut [u8], b: usize, h: usize, fuse: &mut u64, noise: &[u8]) -> bool
-    requires { ⌜ (4 ≤ b) × (b ≤ 2048) × (length (now chip) ≡ 4096 * b) × (h < b) × (length (now noise) ≡ 4096) ⌝ }
+    requires { ⌜ (4 ≤ b) × (b ≤ mostBlocks) × (length (now chip) ≡ 4096 * b) × (h < b) × (length (now noise) ≡ 4096) ⌝ }
     ensures { λ r. ⌜ Clears b h (now (noise .entry)) (now (chip .entry)) (now (fuse .entry)) (now (chip .exit)) (now (fuse .exit)) r ⌝ }
 {
     let oldest = block_after(h, 2, b);
@@ -191,7 +192,7 @@ fn clear_spare(chip: &mut [u8], b: usize, h: usize, fuse: &mut u64, noise: &[u8]
 
 // The head is sealed, and the spare, k of whose places are used, is the head.
 fn seal_head(chip: &mut [u8], b: usize, h: usize, k: usize, fuse: &mut u64, noise: &[u8]) -> Turn
-    requires { ⌜ (4 ≤ b) × (b ≤ 2048) × (length (now chip) ≡ 4096 * b) × (h < b) × (length (now noise) ≡ 4096) × (k ≤ 15) ⌝ }
+    requires { ⌜ (4 ≤ b) × (b ≤ mostBlocks) × (length (now chip) ≡ 4096 * b) × (h < b) × (length (now noise) ≡ 4096) × (k ≤ 15) ⌝ }
     ensures right { λ r. ⌜ Seals b h k (now (noise .entry)) (now (chip .entry)) (now (fuse .entry)) (now (chip .exit)) (now (fuse .exit)) r ⌝ }
     ensures few { λ r. ⌜ Few r ⌝ }
 {

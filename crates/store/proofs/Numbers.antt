@@ -9,7 +9,7 @@ use lib.Dec.{eqb, leb}
 use lib.ListN.{length, getD}
 use borrow.Author.Tests.{eq-eqb, ne-eqb, le-leb, lt-leb, leb-true, eqb-true}
 use Rattle.page.proofs.All.{and-left, and-right}
-use Rattle.log.specs.Ring.{chipOf}
+use Rattle.log.specs.Ring.{chipOf, mostBlocks}
 use Rattle.log.specs.Answers.{Lent, refuse, lent, keyed}
 use Rattle.log.specs.Answers.{Answer as Says}
 use Rattle.log.proofs.RingLaws.{next-le}
@@ -20,18 +20,18 @@ use Rattle.log.specs.Answers.{sizesTest}
 -- ---- the lengths
 
 -- the four tests hold where the test does
-sizes-all : (c w : ℕ) → sizesTest c w ≡ true → (c % 4096 ≡ 0) × (4 ≤ c / 4096) × (c / 4096 ≤ 2048) × (16 * (c / 4096) + 16 ≤ w)
+sizes-all : (c w : ℕ) → sizesTest c w ≡ true → (c % 4096 ≡ 0) × (4 ≤ c / 4096) × (c / 4096 ≤ mostBlocks) × (16 * (c / 4096) + 16 ≤ w)
 sizes-all c w e =
-    let abc = and-left (eqb (c % 4096) 0 && leb 4 (c / 4096) && leb (c / 4096) 2048) _ e in
+    let abc = and-left (eqb (c % 4096) 0 && leb 4 (c / 4096) && leb (c / 4096) mostBlocks) _ e in
     let ab = and-left (eqb (c % 4096) 0 && leb 4 (c / 4096)) _ abc in (
       eqb-true _ _ (and-left (eqb (c % 4096) 0) _ ab),
       leb-true _ _ (and-right (eqb (c % 4096) 0) _ ab),
       leb-true _ _ (and-right (eqb (c % 4096) 0 && leb 4 (c / 4096)) _ abc),
-      leb-true _ _ (and-right (eqb (c % 4096) 0 && leb 4 (c / 4096) && leb (c / 4096) 2048) _ e),
+      leb-true _ _ (and-right (eqb (c % 4096) 0 && leb 4 (c / 4096) && leb (c / 4096) mostBlocks) _ e),
     )
 
 -- one of the tests fails
-pub sizes-fail : (c w : ℕ) → (c % 4096 ≡ 0 → 4 ≤ c / 4096 → c / 4096 ≤ 2048 → 16 * (c / 4096) + 16 ≤ w → ⊥) → sizesTest c w ≡ false
+pub sizes-fail : (c w : ℕ) → (c % 4096 ≡ 0 → 4 ≤ c / 4096 → c / 4096 ≤ mostBlocks → 16 * (c / 4096) + 16 ≤ w → ⊥) → sizesTest c w ≡ false
 sizes-fail c w none = go (sizesTest c w) refl
   where
     go : (t : Bool) → sizesTest c w ≡ t → t ≡ false
@@ -42,7 +42,7 @@ sizes-fail c w none = go (sizesTest c w) refl
 pub sizes-hold : (c w : List ℕ) → Sized c w → sizesTest (length c) (length w) ≡ true
 sizes-hold c w s =
     let z : length c % 4096 ≡ 0 = omega (arith, s .whole) in
-    rw (eq-eqb (length c % 4096) 0 z, le-leb 4 (blocksOf c) (s .some-blocks), le-leb (blocksOf c) 2048 (s .few-blocks), le-leb (16 * blocksOf c + 16) (length w) (s .long))
+    rw (eq-eqb (length c % 4096) 0 z, le-leb 4 (blocksOf c) (s .some-blocks), le-leb (blocksOf c) mostBlocks (s .few-blocks), le-leb (16 * blocksOf c + 16) (length w) (s .long))
 
 -- ---- WHAT IS LENT
 module _ (c : List ℕ) (f : ℕ) (w : List ℕ) (n : ℕ) where

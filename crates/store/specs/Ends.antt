@@ -4,7 +4,7 @@ use mathlib.Core.Logic.{_≢_}
 use mathlib.Core.List.{List}
 use Prim.Native.Nat.{ℕ, _+_, _*_, _/_, _≤_, _<_}
 use lib.ListN.{length, drop, getD}
-use Rattle.log.specs.Ring.{room}
+use Rattle.log.specs.Ring.{room, mostBlocks}
 use Rattle.store.specs.declared.Answer.{Answer}
 use Rattle.store.specs.declared.Answer.the-variants.{Done, Refused}
 use Rattle.store.specs.declared.Change.{Change}
@@ -18,7 +18,7 @@ blocksOf c = length c / 4096
 pub record Sized (c w : List ℕ) : Type 0 where
   pub whole : length c ≡ 4096 * blocksOf c
   pub some-blocks : 4 ≤ blocksOf c
-  pub few-blocks : blocksOf c ≤ 2048
+  pub few-blocks : blocksOf c ≤ mostBlocks
   pub long : 16 * blocksOf c + 16 ≤ length w
 
 -- and head, next place and number of keys, as the work area has them, lie in their ranges

@@ -15,7 +15,7 @@ ghost use Rattle.chip.specs.Chip.{blankAt};
 ghost use Rattle.chip.specs.Play.{Did};
 ghost use Rattle.record.specs.Record.{recordOf, valueAt};
 ghost use Rattle.log.specs.Log.{pages};
-ghost use Rattle.log.specs.Ring.{chipOf, head, laterTest, ringTest, tableAt, nextTo, room};
+ghost use Rattle.log.specs.Ring.{chipOf, head, laterTest, ringTest, tableAt, nextTo, room, mostBlocks};
 ghost use Rattle.log.specs.Answers.{sizesTest, gotten};
 ghost use Rattle.index.specs.Answers.{Within};
 ghost use Rattle.opening.specs.Ends.{Sane};
@@ -45,7 +45,7 @@ fn blocks(chip: &[u8], work: &[u32]) -> usize
     if b < 4 {
         return 0;
     }
-    if 2048 < b {
+    if log::MOST_BLOCKS < b {
         return 0;
     }
     if work.len() < 16 * b + 16 {
@@ -109,7 +109,7 @@ fn append(
     fuse: &mut u64,
     noise: &[u8],
 ) -> Change
-    requires { ⌜ (4 ≤ b) × (b ≤ 2048) × (length (now chip) ≡ 4096 * b) × (h < b) × (next < 15) × (length (now noise) ≡ 4096) ⌝ }
+    requires { ⌜ (4 ≤ b) × (b ≤ mostBlocks) × (length (now chip) ≡ 4096 * b) × (h < b) × (next < 15) × (length (now noise) ≡ 4096) ⌝ }
     requires { ⌜ (n < length (now index)) × Within n found × Keyed (now key) (now value) ⌝ }
     ensures right { λ r. ⌜ Appends b h next n found note (now (key .entry)) (now (value .entry)) (now (noise .entry)) (now (chip .entry)) (now (fuse .entry)) (now (index .entry)) (now (chip .exit)) (now (fuse .exit)) (now (index .exit)) r ⌝ }
     ensures within { λ r. ⌜ ChangeWithin b n r ⌝ }
@@ -144,7 +144,7 @@ fn is_missing(found: Found) -> bool
 
 // The refusals 4 and 3; 0 if none is due.
 fn denied(found: Found, note: bool, n: usize, b: usize) -> u32
-    requires { ⌜ (b ≤ 2048) × (n ≤ room b) ⌝ }
+    requires { ⌜ (b ≤ mostBlocks) × (n ≤ room b) ⌝ }
     ensures { λ r. ⌜ r ≡ denial note (isMissing found) n b ⌝ }
 {
     if !is_missing(found) {
@@ -391,7 +391,7 @@ fn sealed(chip: &[u8], x: usize) -> bool
 
 // The head: the least block from 1 on that isn't sealed while the one before it is; 0 if there is none.
 fn find_head(chip: &[u8], b: usize) -> usize
-    requires { ⌜ (4 ≤ b) × (b ≤ 2048) × (length (now chip) ≡ 4096 * b) ⌝ }
+    requires { ⌜ (4 ≤ b) × (b ≤ mostBlocks) × (length (now chip) ≡ 4096 * b) ⌝ }
     ensures within { λ r. ⌜ r < b ⌝ }
     ensures right { λ r. ⌜ r ≡ head b (chipOf (now (chip .entry))) ⌝ }
 {
@@ -440,7 +440,7 @@ fn blank_from(chip: &[u8], from: usize, end: usize) -> bool
 
 // Whether all blocks but h and the one after it are sealed.
 fn sealed_but(chip: &[u8], b: usize, h: usize) -> bool
-    requires { ⌜ (4 ≤ b) × (b ≤ 2048) × (length (now chip) ≡ 4096 * b) × (h < b) ⌝ }
+    requires { ⌜ (4 ≤ b) × (b ≤ mostBlocks) × (length (now chip) ≡ 4096 * b) × (h < b) ⌝ }
     ensures { λ r. ⌜ r ≡ laterTest b (chipOf (now (chip .entry))) h ⌝ }
 {
     let spare = opening::block_after(h, 1, b);
@@ -456,7 +456,7 @@ fn sealed_but(chip: &[u8], b: usize, h: usize) -> bool
 
 // Whether the chip is a ring with the head h.
 fn is_ring(chip: &[u8], b: usize, h: usize) -> bool
-    requires { ⌜ (4 ≤ b) × (b ≤ 2048) × (length (now chip) ≡ 4096 * b) × (h < b) ⌝ }
+    requires { ⌜ (4 ≤ b) × (b ≤ mostBlocks) × (length (now chip) ≡ 4096 * b) × (h < b) ⌝ }
     ensures { λ r. ⌜ r ≡ ringTest b (chipOf (now (chip .entry))) h ⌝ }
 {
     if sealed(chip, h) {
@@ -489,7 +489,7 @@ fn find_next(chip: &[u8], h: usize) -> usize
 
 // What page p says is replayed. Answers the number of keys.
 fn replay_page(chip: &[u8], index: &mut [u32], n: usize, p: usize) -> usize
-    requires { ⌜ (256 * p + 256 ≤ length (now chip)) × (p < 32768) × (n < length (now index)) ⌝ }
+    requires { ⌜ (256 * p + 256 ≤ length (now chip)) × (p < 16 * mostBlocks) × (n < length (now index)) ⌝ }
     ensures within { λ r. ⌜ r ≤ n + 1 ⌝ }
     ensures right { λ r. ⌜ Replays (now (chip .entry)) p (take n (now (index .entry))) (take r (now (index .exit))) ⌝ }
 {
@@ -508,7 +508,7 @@ fn replay_page(chip: &[u8], index: &mut [u32], n: usize, p: usize) -> usize
 
 // The log, from the oldest block to the head, is replayed into the index.
 fn replay(chip: &[u8], index: &mut [u32], b: usize, h: usize) -> usize
-    requires { ⌜ (4 ≤ b) × (b ≤ 2048) × (length (now chip) ≡ 4096 * b) × (h < b) × (16 * b ≤ length (now index)) ⌝ }
+    requires { ⌜ (4 ≤ b) × (b ≤ mostBlocks) × (length (now chip) ≡ 4096 * b) × (h < b) × (16 * b ≤ length (now index)) ⌝ }
     ensures within { λ r. ⌜ r ≤ 15 * (b - 1) ⌝ }
     ensures right { λ r. ⌜ take r (now (index .exit)) ≡ pages b (tableAt b (chipOf (now (chip .entry))) h) ⌝ }
 {
@@ -560,7 +560,7 @@ pub fn start(chip: &[u8], work: &mut [u32], fuse: &u64) -> Answer
 
 // Erases the blocks one after the other. Answers whether the power stayed.
 fn erase_all(chip: &mut [u8], b: usize, fuse: &mut u64, noise: &[u8]) -> bool
-    requires { ⌜ (4 ≤ b) × (b ≤ 2048) × (length (now chip) ≡ 4096 * b) × (length (now noise) ≡ 4096) ⌝ }
+    requires { ⌜ (4 ≤ b) × (b ≤ mostBlocks) × (length (now chip) ≡ 4096 * b) × (length (now noise) ≡ 4096) ⌝ }
     ensures did { λ r. ⌜ Did b 0 (now (noise .entry)) (now (chip .entry)) (now (fuse .entry)) (now (chip .exit)) (now (fuse .exit)) ⌝ }
     ensures right { λ r. ⌜ Clears b (now (chip .exit)) (now (fuse .exit)) r ⌝ }
 {
