@@ -25,8 +25,8 @@
  *
  * THE FAULT SCRIPT lets your tests play it: *fuse counts the erases and page writes to come.
  *   0            the power is gone: every call answers -7
- *   1            the next erase or page write is cut short; bits that it was to change keep or lose their old state as noise says
- *                (a cut write leaves new | noise, a cut erase old | noise), and *fuse becomes 0
+ *   1            the next erase or page write is cut short, and *fuse becomes 0. A cut write leaves new | noise on its page (the
+ *                first 256 bytes of noise); a cut erase leaves the noise itself in its block: any bytes whatever
  *   more         it is one less after each erase and each page write
  *   UINT64_MAX   no failure within anyone's lifetime
  * After a cut, set *fuse anew and call floatstore_start.

@@ -155,8 +155,12 @@ static void power(void) {
     uint8_t b = 0;
     IS(1, get("a", 1, &b, 1));
     IS('2', b);
-    fuse = 3;
+    for (size_t i = 0; i < FLOATSTORE_NOISE; i++) noise[i] = (uint8_t)(i % 251);
+    fuse = 3; /* the third erase is cut: its block holds the noise, and the next is as it was */
     IS(-7, format());
+    IS(0, memcmp(chip + 2 * FLOATSTORE_BLOCK, noise, FLOATSTORE_BLOCK));
+    IS(0xFF, chip[3 * FLOATSTORE_BLOCK]);
+    memset(noise, 0, sizeof noise);
     fuse = FLOATSTORE_NO_FAULT;
     IS(-7, format());
     start();

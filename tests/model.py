@@ -1,5 +1,5 @@
 #!/usr/bin/env python3
-"""model.py faults | pages | wild: what that program must write, computed from documents 01 and 03 and docs/FORMAT.md alone.
+"""model.py faults | pages | wild: what that program must write, computed from documents 01 and 03, request 7 and docs/FORMAT.md alone.
 
 An independent model of the page form, the payload's layout and the fault script.
 """
@@ -36,7 +36,7 @@ def write(chip, p, new, script, noise):
 
 def erase(chip, b, script, noise):
     old = chip[4096 * b : 4096 * b + 4096]
-    left = {0: old, 1: ors(old, noise)}.get(script, b"\xff" * 4096)
+    left = {0: old, 1: noise}.get(script, b"\xff" * 4096)
     return chip[: 4096 * b] + left + chip[4096 * b + 4096 :], max(script - 1, 0)
 
 
@@ -50,7 +50,7 @@ def says(page):
 
 def line(name, script, which, chip, before, p, span, left):
     page = chip[256 * p : 256 * p + 256]
-    words = [f"{name}, script {script}, noise {['all zeros:', 'all ones: ', 'mixed:    '][which]} {page[0]:02x} {page[128]:02x}"]
+    words = [f"{name}, script {script}, noise {['all zeros:', 'all ones: ', 'mixed:    ', 'forged:   '][which]} {page[0]:02x} {page[128]:02x}"]
     words.append(f"sums {sum(page[:128])} {sum(page[128:])}")
     words += ["blank"] * (page == b"\xff" * 256) + ["sound"] * sound(page) + [f"says {says(page)}", f"left of the script {left}"]
     elsewhere = sum(x != y for i, (x, y) in enumerate(zip(before, chip)) if i not in span)
@@ -58,9 +58,9 @@ def line(name, script, which, chip, before, p, span, left):
 
 
 def faults():
-    for n in range(9):
+    for n in range(12):
         which, script = n // 3, n % 3
-        noise = [bytes(4096), b"\xff" * 4096, bytes(i % 251 for i in range(4096))][which]
+        noise = [bytes(4096), b"\xff" * 4096, bytes(i % 251 for i in range(4096)), 16 * value_page(b"key", b"forged")][which]
         before, _ = write(b"\xff" * 8192, 1, value_page(b"key", b"old"), 9, noise)
         before, _ = write(before, 17, value_page(b"key", b"other"), 8, noise)
         chip, left = write(before, 2, value_page(b"key", b"new"), script, noise)

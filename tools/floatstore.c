@@ -27,7 +27,8 @@ static const char help_text[] =
     "\n"
     "A KEY (1 to 16 bytes) or a VALUE (0 to 96 bytes) is text, or hex digits after 'hex:', as hex:00ff. Bytes that aren't printable are shown so too.\n"
     "get --raw writes the value's bytes as they are.\n"
-    "put and delete take --cut N: the power fails at their N-th erase or page write, and --noise SEED: the bits that it leaves (ones; zeros; or a number).\n"
+    "put and delete take --cut N: the power fails at their N-th erase or page write, and --noise SEED: ones, zeros, or a number.\n"
+    "A write that is cut leaves new | noise, an erase the noise itself.\n"
     "\n"
     "An image is replaced as a whole, or not at all: it is written beside, then renamed. Exit status 0; or 1, with one line on standard error.\n";
 

@@ -127,9 +127,15 @@ static void make_noise(uint8_t *noise) {
         if (chance(3) == 0) memset(noise + 256 * p, p % 2 ? 0xFF : 0, 256);
 }
 
+/* An erase that is cut short may leave anything in its block, which is the spare. Every other one here leaves the head, the block before it, once more. */
+static void forge(uint8_t *noise, const struct op *op) {
+    size_t head = (op->at + blocks - 1) % blocks;
+    if (op->kind == ERASE && tally.in_erase % 2) memcpy(noise, now.chip + FLOATSTORE_BLOCK * head, FLOATSTORE_BLOCK);
+}
+
 static void name_cut(struct cut *cut, const struct op *ops, size_t len, size_t k) {
     const struct op *op = &ops[k - 1];
-    if (op->kind != WRITE) cut->during = "an erase", tally.in_erase++;
+    if (op->kind == ERASE) cut->during = "an erase", tally.in_erase++;
     else if (op->at % 16 == 15) cut->during = "a seal", tally.in_seal++;
     else if (k == len) cut->during = "a record", tally.in_record++;
     else cut->during = "a copy", tally.in_copy++;
@@ -137,7 +143,7 @@ static void name_cut(struct cut *cut, const struct op *ops, size_t len, size_t k
 }
 
 static void count_ops(const struct op *ops, size_t len) {
-    for (size_t i = 0; i < len; i++) tally.erases += ops[i].kind != WRITE, tally.writes += ops[i].kind == WRITE;
+    for (size_t i = 0; i < len; i++) tally.erases += ops[i].kind == ERASE, tally.writes += ops[i].kind == WRITE;
     count_wear(&wear, ops, len);
 }
 
@@ -153,7 +159,7 @@ static size_t seen(struct op *ops, const struct change *c) {
     size_t len, erases = 0;
     const char *wrong = watch(ops, MAX_OPS, &len, run, c, &now);
     if (wrong) die("%s", wrong);
-    for (size_t i = 0; i < len; i++) erases += ops[i].kind != WRITE;
+    for (size_t i = 0; i < len; i++) erases += ops[i].kind == ERASE;
     if (erases > tally.worst_erases) tally.worst_erases = erases;
     if (len - erases > tally.worst_writes) tally.worst_writes = len - erases;
     return len;
@@ -168,6 +174,7 @@ static int fail(const struct change *c, const struct op *ops, size_t len, size_t
     snprintf(cut->key, sizeof cut->key, "%s", c->key);
     name_cut(cut, ops, len, k);
     make_noise(noise);
+    forge(noise, &ops[k - 1]);
     waiting--;
     now.fuse = k;
     if (run(c, &now, noise) != -FLOATSTORE_POWER_GONE) die("a call that was cut does not answer -7");

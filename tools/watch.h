@@ -1,5 +1,6 @@
-/* What a call does to the chip, seen from outside. By document 03 an operation that is cut with noise of all zeros completes a write and leaves an erase undone; with
- * noise of all ones it is the other way round. So the chip before and after each operation of a call can be had by cutting it there, on copies. */
+/* What a call does to the chip, seen from outside, by cutting it at each operation on two copies of the chip: with noise of all ones and of all zeros. By docs/FAULTS.md
+ * ones leave a write undone and an erase done; zeros complete a write, and leave a block of zeros in the place of an erase. So the two copies differ in the page that was
+ * written, or in all bytes of the block that was erased. */
 #ifndef WATCH_H
 #define WATCH_H
 
@@ -8,7 +9,7 @@
 #include <stdint.h>
 
 struct op {
-    enum { ERASE, WRITE, UNSEEN } kind; /* unseen: the erase of a block that was blank */
+    enum { ERASE, WRITE } kind;
     size_t at; /* the block, or the page */
 };
 
@@ -25,13 +26,16 @@ typedef int64_t call(const void *what, struct world *w, const uint8_t *noise);
 int make_world(struct world *w, size_t blocks);
 void copy_world(struct world *to, const struct world *from);
 
-/* The operations that a call would do on a store that stays as it is; *len may exceed max, and then none are seen. Answers NULL, or what is wrong with them: one
- * that is neither an erase nor the write of a page that was blank, or one that touches more than its block or page. */
+/* The k-th operation that a call would do on a store that stays as it is. Answers whether it is an erase or a write at all. */
+int watch_one(struct op *op, size_t k, call *c, const void *what, const struct world *w);
+
+/* All its operations; *len may exceed max, and then none are seen. Answers NULL, or what is wrong with them: one that is neither an erase nor the write of a page
+ * that was blank, or one that touches more than its block or page. */
 const char *watch(struct op *ops, size_t max, size_t *len, call *c, const void *what, const struct world *w);
 
-/* Erases, by block and in all. An erase that wasn't seen is counted for the block where the next record is written. */
+/* Erases, by block and in all. */
 struct wear {
-    size_t of[FLOATSTORE_MAX_BLOCKS], unseen, all;
+    size_t of[FLOATSTORE_MAX_BLOCKS], all;
 };
 void count_wear(struct wear *wear, const struct op *ops, size_t len);
 

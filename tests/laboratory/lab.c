@@ -1,8 +1,9 @@
 /* The crash laboratory: random histories of a store on chips of 4, 5, 8 and 16 blocks, beside a model of its map that shares nothing with it.
  *
- * Each put and delete is cut at every one of its operations, on copies of the chip, with noise that an adversary chose; after each cut the map must be the
- * one before or the one after, and then the call is tried again and cut again, three deep. The history itself goes on whole or through a cut. What the store does to
- * the chip is seen from outside (tools/watch.h): erases and writes are counted without a word from the store, and a write to a page that isn't blank is found.
+ * Each put and delete is cut at every one of its operations, on copies of the chip, with noise that an adversary chose; a cut erase leaves forged blocks (docs/FAULTS.md).
+ * After each cut the map must be the one before or the one after, and then the call is tried again and cut again, three deep. The history itself goes on whole or through
+ * a cut. What the store does to the chip is seen from outside (tools/watch.h): erases and writes are counted without a word from the store, and a write to a page that
+ * isn't blank is found.
  *
  *   lab library|twin|both|bugN SECONDS [SEED]      0: nothing found; 1: found, with the way to it; 2: bad usage
  *
@@ -18,7 +19,7 @@
 #include <string.h>
 #include <time.h>
 
-enum { MAX_B = 16, ROOM = 8 * (MAX_B - 2), KEYS = ROOM + 8, MAX_OPS = 256, DEPTH = 3 };
+enum { MAX_B = 16, ROOM = 8 * (MAX_B - 2), KEYS = ROOM + 8, MAX_OPS = 256, DEPTH = 3, PAGE = FLOATSTORE_PAGE, BLOCK = FLOATSTORE_BLOCK };
 
 struct store {
     int64_t (*format)(uint8_t *, size_t, uint32_t *, size_t, uint64_t *, const uint8_t *);
@@ -116,7 +117,7 @@ static int64_t run(struct world *w, const struct change *c, const uint8_t *noise
 /* ---- what is found ends the run, with the way to it */
 
 static struct {
-    uint64_t seed, calls, changes, failures, histories, cuts, nested;
+    uint64_t seed, calls, changes, failures, histories, cuts, nested, forged;
     const char *name, *at;
 } tally;
 
@@ -150,10 +151,15 @@ static size_t differs(struct world *w, const struct map *m) {
     return count(w) == (int64_t)m->count ? KEYS : KEYS + 1;
 }
 
-/* ---- the adversary's noise */
+/* ---- the adversary's noise. A cut write leaves new | noise; a cut erase leaves the noise itself, so that any block can be forged */
 
 enum { ONES, ZEROS, PAGES, ONE_KEPT, ONE_CLEARED, SPARSE_ONES, SPARSE_ZEROS, PREFIX, BITS, NOISES };
-static const char *const noises[NOISES] = {"all ones", "all zeros", "page by page", "one page kept", "one page cleared", "few ones", "few zeros", "cut at a byte", "random bits"};
+enum { AS_IT_WAS = NOISES, TO_ONES, TO_ZEROS, NEWER, NOTES, ANOTHER, SEALED, UNSEALED, MIXTURE, KINDS }; /* for erases alone: forged blocks */
+static const char *const noises[KINDS] = {
+    "all ones", "all zeros", "page by page", "one page of zeros", "one page of ones", "few ones", "few zeros", "cut at a byte", "random bits",
+    "the block as it was", "some bits of the block turned to 1", "some bits of the block turned to 0", "newer values", "notes of deletion", "a copy of another block",
+    "a sealed block of records", "a full block that isn't sealed", "all of these at once",
+};
 
 static void fill_noise(uint8_t *noise, int kind) {
     size_t from = 256 * chance(16);
@@ -171,6 +177,70 @@ static void fill_noise(uint8_t *noise, int kind) {
             size_t at = chance(2) ? chance(256) : chance(FLOATSTORE_NOISE);
             noise[at] ^= (uint8_t)(1u << chance(8));
         }
+}
+
+/* A sound page by docs/FORMAT.md: 1 a value, 2 a note, 3 a seal. */
+static void forge_page(uint8_t *page, uint8_t kind, size_t i) {
+    uint8_t key[16];
+    size_t key_len = key_of(i, key);
+    memset(page, 0, 128);
+    page[0] = 1, page[1] = kind;
+    if (kind != 3) page[2] = (uint8_t)key_len, memcpy(page + 16, key, key_len);
+    if (kind == 1) page[3] = (uint8_t)chance(97);
+    for (size_t j = 0; j < page[3]; j++) page[32 + j] = (uint8_t)chance(256);
+    for (size_t j = 0; j < 128; j++) page[128 + j] = 255 - page[j];
+}
+
+/* A key that has a value, if there is one: of it an adversary lies. */
+static size_t key_in_use(const struct map *m) {
+    size_t from = chance(KEYS);
+    for (size_t i = 0; i < KEYS; i++)
+        if (m->of[(from + i) % KEYS].has) return (from + i) % KEYS;
+    return from;
+}
+
+/* Page j of the block, forged: of every kind there is. */
+static void forge_any(uint8_t *page, const struct world *w, const uint8_t *old, size_t j, const struct map *m) {
+    uint32_t kind = chance(9);
+    if (kind < 3) forge_page(page, (uint8_t)(kind + 1), key_in_use(m));
+    if (kind == 3) forge_page(page, 1, chance(KEYS));
+    if (kind == 4) memcpy(page, w->chip + PAGE * (size_t)chance((uint32_t)(w->chip_len / PAGE)), PAGE);
+    if (kind == 5) memcpy(page, old + PAGE * j, PAGE);
+    if (kind == 6) memset(page, 0xFF, PAGE);
+    if (kind == 7) memset(page, 0, PAGE);
+    for (size_t i = 0; kind == 8 && i < PAGE; i++) page[i] = (uint8_t)chance(256);
+}
+
+/* A copy of the head, which is the block before the spare, of the oldest, which is the one after it, or of any. */
+static void copy_another(uint8_t *noise, const struct world *w, size_t spare) {
+    size_t from[] = {spare + blocks - 1, spare + 1, chance((uint32_t)blocks)};
+    memcpy(noise, w->chip + BLOCK * (from[chance(3)] % blocks), BLOCK);
+}
+
+/* The block as it was, with some of its bits turned to 1, or to 0. */
+static void turn_bits(uint8_t *noise, const uint8_t *old, int to) {
+    fill_noise(noise, (int)chance(NOISES));
+    for (size_t i = 0; i < BLOCK; i++) noise[i] = to ? old[i] | noise[i] : old[i] & noise[i];
+}
+
+/* Sound pages about keys in use, or of a block of records about any, sealed or not. */
+static void forge_pages(uint8_t *noise, int kind, const struct map *m) {
+    for (size_t j = 0; j < 16; j++) {
+        size_t key = kind >= SEALED && chance(2) ? chance(KEYS) : key_in_use(m);
+        forge_page(noise + PAGE * j, kind == NEWER ? 1 : kind == NOTES ? 2 : (uint8_t)(1 + chance(2)), key);
+    }
+    if (kind == SEALED) forge_page(noise + PAGE * 15, 3, 0);
+    if (kind == UNSEALED || (kind != SEALED && chance(3) == 0)) memset(noise + PAGE * 15, 0xFF, PAGE);
+}
+
+/* What the cut erase of a block leaves there. */
+static void forge_block(uint8_t *noise, int kind, const struct world *w, size_t block, const struct map *m) {
+    const uint8_t *old = w->chip + BLOCK * block;
+    if (kind == AS_IT_WAS) memcpy(noise, old, BLOCK);
+    else if (kind == TO_ONES || kind == TO_ZEROS) turn_bits(noise, old, kind == TO_ONES);
+    else if (kind == ANOTHER) copy_another(noise, w, block);
+    else if (kind != MIXTURE) forge_pages(noise, kind, m);
+    for (size_t j = 0; kind == MIXTURE && j < 16; j++) forge_any(noise + PAGE * j, w, old, j, m);
 }
 
 /* ---- what a call does to the chip, seen from outside */
@@ -199,7 +269,7 @@ static struct {
 
 static void check_cost(const struct trace *t) {
     size_t erases = 0, room = FLOATSTORE_ROOM(blocks);
-    for (size_t i = 0; i < t->len; i++) erases += t->op[i].kind != WRITE;
+    for (size_t i = 0; i < t->len; i++) erases += t->op[i].kind == ERASE;
     size_t writes = t->len - erases;
     if (erases > room / 15 + 1 || writes > room + blocks) found("a call does %zu erases and %zu writes", erases, writes);
     if (erases > worst[blocks].erases) worst[blocks].erases = erases;
@@ -223,14 +293,19 @@ static void check_wear(void) {
 
 /* ---- cuts */
 
-/* The power fails at operation k. After the start the map is m or m with the change made: m is set to the one it is. */
-static void cut(struct world *w, struct map *m, const struct change *c, size_t k, int kind) {
+/* A kind of noise for an operation: forged blocks are for erases. */
+static int kind_for(const struct op *op) { return (int)chance(op->kind == ERASE ? KINDS : NOISES); }
+
+/* The power fails at operation k, which is op. After the start the map is m or m with the change made: m is set to the one it is. */
+static void cut(struct world *w, struct map *m, const struct change *c, size_t k, const struct op *op, int kind) {
     static uint8_t noise[FLOATSTORE_NOISE], chip[FLOATSTORE_CHIP_LEN(MAX_B)];
-    static char at[96];
-    snprintf(at, sizeof at, ", cut at operation %zu with noise '%s'", k, noises[kind]);
+    static char at[128];
+    snprintf(at, sizeof at, ", cut at operation %zu (%s) with noise '%s'", k, op->kind == ERASE ? "an erase" : "a write", noises[kind]);
     tally.at = at;
     tally.cuts++;
-    fill_noise(noise, kind);
+    tally.forged += kind >= NOISES;
+    if (kind < NOISES) fill_noise(noise, kind);
+    else forge_block(noise, kind, w, op->at, m);
     w->fuse = k;
     if (run(w, c, noise) != -7 || w->fuse != 0) found("the call that was cut does not answer -7");
     memcpy(chip, w->chip, w->chip_len);
@@ -258,14 +333,14 @@ static struct world now, worlds[DEPTH], whole;
 static struct map map;
 
 /* On a copy: the call is cut at k, tried again and cut again, or another call is; so deep. */
-static void cut_deep(const struct world *w, const struct map *m, const struct change *c, size_t k, int kind, int depth) {
+static void cut_deep(const struct world *w, const struct map *m, const struct change *c, size_t k, const struct op *op, int kind, int depth) {
     static struct map maps[DEPTH];
     struct world *there = &worlds[depth];
     struct map *then = &maps[depth];
     struct change again = *c;
     copy_world(there, w);
     *then = *m;
-    cut(there, then, c, k, kind);
+    cut(there, then, c, k, op, kind);
     if (depth + 1 == DEPTH || chance(2)) return;
     if (chance(4) == 0) choose(&again, then, FLOATSTORE_ROOM(blocks), 30);
     if (!again.to.has && !then->of[again.key].has) return;
@@ -274,8 +349,10 @@ static void cut_deep(const struct world *w, const struct map *m, const struct ch
     copy_world(&whole, there);
     if (run(&whole, &again, noise) != 0) found("after a cut and a start a call is refused");
     tally.nested++;
-    size_t at = 1 + chance((uint32_t)(FLOATSTORE_NO_FAULT - whole.fuse));
-    cut_deep(there, then, &again, at, (int)chance(NOISES), depth + 1);
+    size_t len = (size_t)(FLOATSTORE_NO_FAULT - whole.fuse), at = chance(3) ? 1 + chance((uint32_t)len) : 1; /* an erase comes first */
+    struct op next;
+    if (!watch_one(&next, at, call_again, &again, there)) found("after a cut and a start an operation is neither an erase nor a write");
+    cut_deep(there, then, &again, at, &next, kind_for(&next), depth + 1);
 }
 
 /* ---- a history */
@@ -313,16 +390,17 @@ static void step(const struct change *c, uint32_t risk) {
     observe(&t, &now, c);
     check_cost(&t);
     for (size_t k = 1; k <= t.len; k++) {
-        int sure = (int)chance(NOISES); /* no operation goes without a cut */
-        for (int kind = 0; kind < NOISES; kind++)
-            if (kind == sure || chance(t.len > 1 ? 2 : 4) == 0) cut_deep(&now, &map, c, k, kind, 0);
+        const struct op *op = &t.op[k - 1];
+        int sure = (int)chance(NOISES); /* no operation goes without a cut, and no erase without all its forgeries */
+        for (int kind = 0; kind < (op->kind == ERASE ? KINDS : NOISES); kind++)
+            if (kind >= NOISES || kind == sure || chance(t.len > 1 ? 2 : 4) == 0) cut_deep(&now, &map, c, k, op, kind, 0);
     }
     tally.changes++;
     size_t k = 1 + chance((uint32_t)t.len);
     if (risk && chance(risk) == 0) {
         tally.failures++;
         count_wear(&wear, t.op, k);
-        cut(&now, &map, c, k, (int)chance(NOISES));
+        cut(&now, &map, c, k, &t.op[k - 1], kind_for(&t.op[k - 1]));
     } else {
         count_wear(&wear, t.op, t.len);
         if (run(&now, c, noise) != 0) found("a call that may not be refused is");
@@ -391,8 +469,8 @@ static void history(uint64_t seed) {
 }
 
 static void report(void) {
-    printf("%s: %llu histories, %llu cuts survived, %llu of them nested; nothing found\n", tally.name, (unsigned long long)tally.histories,
-           (unsigned long long)tally.cuts, (unsigned long long)tally.nested);
+    printf("%s: %llu histories, %llu cuts survived, %llu of them nested, %llu of them erases that left a forged block; nothing found\n", tally.name,
+           (unsigned long long)tally.histories, (unsigned long long)tally.cuts, (unsigned long long)tally.nested, (unsigned long long)tally.forged);
     for (size_t b = 4; b <= MAX_B; b++)
         if (worst[b].writes)
             printf("  %2zu blocks, worst and bound: a call's erases %zu of %zu, its page writes %zu of %zu; unevenness %zu of 1 with no power failure, %zu of %zu with; all erases %zu%% of n/7 + q\n",

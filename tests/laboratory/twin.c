@@ -9,6 +9,7 @@ const char *const twin_bugs[BUGS] = {
     "half of the flipped copy is compared",
     "a spare whose first page is blank isn't erased",
     "the spare is erased twice",
+    "the spare is erased in the first round too",
 };
 
 /* The words of the work area. The index is in no order: a twin needn't be fast. */
@@ -25,7 +26,7 @@ static size_t blocks(size_t chip_len, size_t work_len) {
 
 static void chip_erase(uint8_t *chip, size_t block, uint64_t *fuse, const uint8_t *noise) {
     if (*fuse == 0) return;
-    for (size_t i = 0; i < BLOCK; i++) chip[BLOCK * block + i] |= *fuse == 1 ? noise[i] : 0xFF;
+    for (size_t i = 0; i < BLOCK; i++) chip[BLOCK * block + i] = *fuse == 1 ? noise[i] : 0xFF;
     --*fuse;
 }
 
@@ -132,7 +133,7 @@ static int open_next(uint8_t *chip, size_t b, uint32_t *work, uint64_t *fuse, co
     size_t h = work[HEAD], spare = (h + 1) % b, oldest = (h + 2) % b, copies = 0, live = 0;
     uint8_t page[PAGE];
     for (size_t i = 0; i < work[KEYS]; i++) live += work[INDEX + i] / 16 == oldest;
-    if (is_sealed(chip, oldest) && !(twin_bug == TRUSTS_BLANK && is_blank(chip + BLOCK * spare))) {
+    if ((is_sealed(chip, oldest) || twin_bug == ERASES_BLANK) && !(twin_bug == TRUSTS_BLANK && is_blank(chip + BLOCK * spare))) {
         chip_erase(chip, spare, fuse, noise);
         if (twin_bug == ERASES_TWICE) chip_erase(chip, spare, fuse, noise);
     }

@@ -12,6 +12,7 @@ enum {
     HALF_SOUND, /* the flipped copy of the first 64 bytes alone is compared: mixed values */
     TRUSTS_BLANK, /* the spare isn't erased if its first page reads blank */
     ERASES_TWICE, /* the spare is erased twice, to be sure: right, but it wears unevenly */
+    ERASES_BLANK, /* the spare is erased in the first round too, where it is blank: right while a cut erase only turned bits from 0 to 1 */
     BUGS
 };
 extern int twin_bug;

@@ -1,52 +1,31 @@
--- For the reader of document 03, section 1: a page of a block whose erase was cut short is sound only if it is exactly as it was.
+-- For the reader of docs/FAULTS.md: after an erase that was cut short the block is the noise, so any bytes whatever can stand there.
 -- No layer above uses this: nothing there rests on what a cut erase leaves in its block. Assumes nothing.
-use mathlib.Core.Path.{_≡_, refl, ap, _∙_}
-use mathlib.Core.Bool.{true}
+use mathlib.Core.Path.{_≡_, refl, sym, ap, _∙_}
 use mathlib.Core.List.{List, [], _∷_}
-use Prim.Native.Nat.{ℕ, zero, suc, _+_, _*_, _/_, _%_, _≤_}
-use native.Mathlib.Nat.{le-refl}
+use Prim.Native.Nat.{ℕ, suc, _+_, _*_, _≤_}
 use native.Mathlib.Omega.{arith}
 use lib.ListN.{length, take, drop}
-use lib.Seq.{take-nil, drop-nil, take-take, drop-drop}
-use lib.Bits.{bitOr}
-use Rattle.page.specs.Page.{sound, each, ors}
-use Rattle.page.proofs.Cut.{length-each, Tame, tame-same}
-use Rattle.chip.specs.Chip.{goes, pageAt, blockAt, erased}
-use Rattle.chip.proofs.Splice.{part-early}
+use lib.Seq.{take-all}
+use Rattle.page.specs.Page.{each}
+use Rattle.page.proofs.Cut.{length-each}
+use Rattle.chip.specs.Chip.{goes, blockAt, news, splice, erased}
+use Rattle.chip.proofs.Splice.{splice-part}
 use Rattle.chip.proofs.Power.{length-part}
-use Rattle.chip.proofs.Pages.{length-page, block-page}
 
-take-ors : (n : ℕ) (xs ns : List ℕ) → take n (ors xs ns) ≡ ors (take n xs) (take n ns)
+-- of two lists of one length it is the second, whatever the first is
+news-all : (xs ys : List ℕ) → length xs ≡ length ys → news xs ys ≡ ys
 unfolding each
-take-ors zero xs ns = refl
-take-ors (suc n) [] ns = refl
-take-ors (suc n) (x ∷ xs) [] = ap (λ (l : List ℕ). x ∷ l) (take-ors n xs [] ∙ ap (λ (l : List ℕ). ors (take n xs) l) (take-nil n))
-take-ors (suc n) (x ∷ xs) (y ∷ ns) = ap (λ (l : List ℕ). bitOr x y ∷ l) (take-ors n xs ns)
+news-all [] [] e = refl
+news-all [] (y ∷ ys) e = absurd (omega (arith, e))
+news-all (x ∷ xs) [] e = absurd (omega (arith, e))
+news-all (x ∷ xs) (y ∷ ys) e = ap (λ (l : List ℕ). y ∷ l) (news-all xs ys (omega (arith, e)))
 
-drop-ors : (n : ℕ) (xs ns : List ℕ) → drop n (ors xs ns) ≡ ors (drop n xs) (drop n ns)
-unfolding each
-drop-ors zero xs ns = refl
-drop-ors (suc n) [] ns = refl
-drop-ors (suc n) (x ∷ xs) [] = drop-ors n xs [] ∙ ap (λ (l : List ℕ). ors (drop n xs) l) (drop-nil n)
-drop-ors (suc n) (x ∷ xs) (y ∷ ns) = drop-ors n xs ns
-
-module _ (noise : List ℕ) (b : ℕ) (c : List ℕ) (h : 4096 * b + 4096 ≤ length c) (q : ℕ) (e : q / 16 ≡ b) where
-  part : take 256 (drop (256 * (q % 16)) (blockAt c b)) ≡ pageAt c q
-  unfolding pageAt blockAt
-  part =
-      let a : 4096 * b + 256 * (q % 16) ≡ 256 * q = omega arith in
-      part-early (take 4096 (drop (4096 * b) c)) (drop (4096 * b) c) 4096 (256 * (q % 16)) 256 (omega arith) (take-take 4096 4096 (drop (4096 * b) c) (le-refl 4096))
-      ∙ ap (take 256) (drop-drop (256 * (q % 16)) (4096 * b) c) ∙ ap (λ (n : ℕ). take 256 (drop n c)) a
-
-  -- each byte of the page holds its old value or noise
-  pub erased-cut : pageAt (erased goes noise b c) q ≡ ors (pageAt c q) (take 256 (drop (256 * (q % 16)) noise))
-  unfolding erased blockAt
-  erased-cut =
-      block-page noise b c h (ors (blockAt c b) noise) (length-each bitOr _ noise ∙ length-part (4096 * b) 4096 c h) q e
-      ∙ ap (take 256) (drop-ors (256 * (q % 16)) (blockAt c b) noise) ∙ take-ors 256 (drop (256 * (q % 16)) (blockAt c b)) (drop (256 * (q % 16)) noise)
-      ∙ ap (λ (pg : List ℕ). ors pg (take 256 (drop (256 * (q % 16)) noise))) part
-
-  -- so where writes and erases, whole or cut, had left it, and it is sound, it is as it was
-  pub erased-cut-same : Tame (pageAt c q) → sound (pageAt (erased goes noise b c) q) ≡ true → pageAt (erased goes noise b c) q ≡ pageAt c q
-  erased-cut-same t s =
-      erased-cut ∙ tame-same (pageAt c q) (take 256 (drop (256 * (q % 16)) noise)) (length-page c q (omega arith)) t (rw erased-cut at s)
+-- ANY 4,096 BYTES: the block is the noise, whatever it was
+pub erased-cut : (noise : List ℕ) (b : ℕ) (c : List ℕ) → length noise ≡ 4096 → 4096 * b + 4096 ≤ length c → blockAt (erased goes noise b c) b ≡ noise
+unfolding erased blockAt
+erased-cut noise b c n h =
+    let k : length (take 4096 (drop (4096 * b) c)) ≡ 4096 = length-part (4096 * b) 4096 c h in
+    let z : 4096 * b + 0 ≡ 4096 * b = omega arith in
+    let e : news (take 4096 (drop (4096 * b) c)) noise ≡ noise = news-all _ noise (k ∙ sym n) in
+    ap (λ (l : List ℕ). take 4096 (drop (4096 * b) (splice c (4096 * b) l))) e ∙ ap (λ (a : ℕ). take 4096 (drop a (splice c (4096 * b) noise))) (sym z)
+    ∙ splice-part c (4096 * b) noise 0 4096 (omega arith) (omega arith) ∙ take-all 4096 noise (omega arith)

@@ -1,4 +1,4 @@
--- The loops of `clear`, `burn` and `blur`: one store a turn, from the front. Assumes nothing.
+-- The loops of `clear`, `burn`, `blur` and `overwrite`: one store a turn, from the front. Assumes nothing.
 use mathlib.Core.Path.{_≡_, sym, ap, _∙_}
 use mathlib.Core.List.{List}
 use Prim.Native.Nat.{ℕ, _+_, _≤_, _<_}

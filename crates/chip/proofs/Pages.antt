@@ -12,7 +12,7 @@ use lib.Seq.{take-all, getD-take, getD-drop}
 use lib.Bits.{bitOr, bitAnd}
 use Rattle.page.specs.Page.{byte, Bytes, ors, ands}
 use Rattle.page.proofs.Cut.{length-each, ands-blank, blank-of}
-use Rattle.chip.specs.Chip.{Power, gone, goes, stays, pageAt, blockAt, blankAt, splice, erased, written}
+use Rattle.chip.specs.Chip.{Power, gone, goes, stays, pageAt, blockAt, blankAt, news, splice, erased, written}
 use Rattle.chip.specs.Play.{Writable}
 use Rattle.chip.proofs.Splice.{length-splice, splice-part, splice-early, splice-late}
 use Rattle.chip.proofs.Power.{length-part}
@@ -94,9 +94,9 @@ module _ (noise : List ℕ) (b : ℕ) (c : List ℕ) (h : 4096 * b + 4096 ≤ le
   ones : length {A = ℕ} (replicate 4096 255) ≡ 4096
   ones = length-replicate {A = ℕ} 4096 255
 
-  noisy-block : length (ors (blockAt c b) noise) ≡ 4096
+  noisy-block : length (news (blockAt c b) noise) ≡ 4096
   unfolding blockAt
-  noisy-block = length-each bitOr (blockAt c b) noise ∙ length-part (4096 * b) 4096 c h
+  noisy-block = length-each _ (blockAt c b) noise ∙ length-part (4096 * b) 4096 c h
 
   at-block : 4096 * b ≡ 256 * (16 * b)
   at-block = omega arith
@@ -104,7 +104,7 @@ module _ (noise : List ℕ) (b : ℕ) (c : List ℕ) (h : 4096 * b + 4096 ≤ le
   pub length-erased : (t : Power) → length (erased t noise b c) ≡ length c
   unfolding erased
   length-erased gone = refl
-  length-erased goes = length-splice c (4096 * b) (ors (blockAt c b) noise) (omega (arith, noisy-block))
+  length-erased goes = length-splice c (4096 * b) (news (blockAt c b) noise) (omega (arith, noisy-block))
   length-erased stays = length-splice c (4096 * b) (replicate 4096 255) (omega (arith, ones))
 
   -- the block's pages are those of xs
@@ -130,5 +130,5 @@ module _ (noise : List ℕ) (b : ℕ) (c : List ℕ) (h : 4096 * b + 4096 ≤ le
   pub erased-else : (t : Power) (q : ℕ) → q / 16 ≢ b → pageAt (erased t noise b c) q ≡ pageAt c q
   unfolding erased
   erased-else gone q ne = refl
-  erased-else goes q ne = block-else (ors (blockAt c b) noise) noisy-block q ne
+  erased-else goes q ne = block-else (news (blockAt c b) noise) noisy-block q ne
   erased-else stays q ne = block-else (replicate 4096 255) ones q ne

@@ -11,7 +11,7 @@ use lib.Bits.{bitOr, bitAnd}
 use borrow.Rule.Slice.PartMut.{putMid, midOf}
 use Rattle.page.specs.Page.{Bytes, ors, ands}
 use Rattle.page.proofs.Cut.{length-each, ands-blank}
-use Rattle.chip.specs.Chip.{Power, goes, stays, power, pageAt, blockAt, blankAt, splice, erased, written}
+use Rattle.chip.specs.Chip.{Power, goes, stays, power, pageAt, blockAt, blankAt, news, splice, erased, written}
 use Rattle.chip.proofs.Splice.{part-back, part-out}
 
 pub power-goes : (f : ℕ) → f ≡ 1 → power f ≡ goes
@@ -29,13 +29,13 @@ length-part a k c h = length-take-le k (drop a c) (simp length-drop (omega arith
 
 -- ---- the block, lent as a part, has come back as ys
 module _ (f b : ℕ) (noise c ys : List ℕ) (h : 4096 * b + 4096 ≤ length c) where
-  pub erase-cut : f ≡ 1 → ys ≡ ors (midOf (4096 * b) (4096 * b + 4096 - 4096 * b) c) noise
+  pub erase-cut : f ≡ 1 → ys ≡ news (midOf (4096 * b) (4096 * b + 4096 - 4096 * b) c) noise
       → putMid (4096 * b) (4096 * b + 4096 - 4096 * b) c ys ≡ erased (power f) noise b c
   unfolding erased blockAt
   erase-cut e y =
-      let y₂ : ys ≡ ors (take 4096 (drop (4096 * b) c)) noise = y ∙ ap (λ (l : List ℕ). ors l noise) (part-out (4096 * b) 4096 c) in
+      let y₂ : ys ≡ news (take 4096 (drop (4096 * b) c)) noise = y ∙ ap (λ (l : List ℕ). news l noise) (part-out (4096 * b) 4096 c) in
       rw (power-goes f e)
-      (part-back (4096 * b) 4096 c ys (ap length y₂ ∙ length-each bitOr _ noise ∙ length-part (4096 * b) 4096 c h)
+      (part-back (4096 * b) 4096 c ys (ap length y₂ ∙ length-each _ _ noise ∙ length-part (4096 * b) 4096 c h)
       ∙ ap (λ (l : List ℕ). splice c (4096 * b) l) y₂)
 
   pub erase-whole : 1 < f → ys ≡ replicate (length (midOf (4096 * b) (4096 * b + 4096 - 4096 * b) c)) 255

@@ -1,10 +1,10 @@
--- The chip (document 01, section 1), and what an operation leaves of it, whole and cut short (document 03, section 1).
+-- The chip (document 01, section 1), and what an operation leaves of it, whole and cut short (docs/FAULTS.md: document 03, section 1, with request 7).
 -- A chip is a list of bytes. Nothing here mentions code. Assumes nothing.
 use mathlib.Core.Bool.{Bool}
 use mathlib.Core.List.{List, _++_}
 use Prim.Native.Nat.{ℕ, zero, suc, _+_, _*_}
 use lib.ListN.{length, take, drop, replicate}
-use Rattle.page.specs.Page.{blank, ors, ands}
+use Rattle.page.specs.Page.{blank, each, ors, ands}
 
 -- the 256 bytes of page p, and the 4,096 bytes of block b, whose pages are 16 b to 16 b + 15
 unfoldable pub pageAt : List ℕ → ℕ → List ℕ
@@ -30,10 +30,14 @@ power zero = gone
 power (suc zero) = goes
 power (suc (suc n)) = stays
 
--- ERASE BLOCK b: all its bytes become 0xFF; cut short, each holds its old value or noise; with the power gone nothing changes
+-- the second list's byte at each index, whatever stood there; past its end the first is as it was
+abbrev pub news : List ℕ → List ℕ → List ℕ
+news = each (λ x y. y)
+
+-- ERASE BLOCK b: all its bytes become 0xFF; cut short, they are any bytes whatever, those of the noise; with the power gone nothing changes
 unfoldable pub erased : Power → List ℕ → ℕ → List ℕ → List ℕ
 erased stays noise b c = splice c (4096 * b) (replicate 4096 255)
-erased goes noise b c = splice c (4096 * b) (ors (blockAt c b) noise)
+erased goes noise b c = splice c (4096 * b) (news (blockAt c b) noise)
 erased gone noise b c = c
 
 -- WRITE PAGE p: each byte becomes the bitwise and of what it was and what was given; cut short, the page holds new or noise

@@ -1,4 +1,4 @@
-// The chip (document 01, section 1) and its fault script (document 03, section 1): erase a block, write a page, whole or cut short.
+// The chip (document 01, section 1) and its fault script (docs/FAULTS.md): erase a block, write a page, whole or cut short.
 // This is the only crate that changes the chip's bytes. What an operation leaves is said in specs/Chip.antt, what a run of them did in specs/Play.antt.
 // `fuse` is the number of the fault script: 0, the power is gone; 1, it goes during the next operation; more, it stays on for that one.
 use page::Look;
@@ -8,7 +8,7 @@ ghost use Prim.Native.Nat.{_+_, _-_, _*_, _≤_};
 ghost use lib.ListN.{length, replicate};
 ghost use Rattle.page.specs.Page.{ors, ands};
 ghost use Rattle.page.specs.Look.{lookOf};
-ghost use Rattle.chip.specs.Chip.{pageAt, blankAt, power, erased, written};
+ghost use Rattle.chip.specs.Chip.{pageAt, blankAt, news, power, erased, written};
 
 // Whether page p is blank, so that it may be written.
 pub fn blank_at(chip: &[u8], p: usize) -> bool
@@ -66,6 +66,19 @@ fn blur(dst: &mut [u8], noise: &[u8])
     }
 }
 
+// The noise takes the place of what was there.
+fn overwrite(dst: &mut [u8], noise: &[u8])
+    requires { ⌜ length (now dst) ≤ length (now noise) ⌝ }
+    ensures { λ _. ⌜ now (dst .exit) ≡ news (now (dst .entry)) (now (noise .entry)) ⌝ }
+{
+    let n = dst.len();
+    let mut i = 0;
+    while i < n {
+        dst[i] = noise[i];
+        i += 1;
+    }
+}
+
 // Erases block b.
 pub fn erase(chip: &mut [u8], b: usize, fuse: &mut u64, noise: &[u8])
     requires { ⌜ (4096 * b + 4096 ≤ length (now chip)) × (length (now noise) ≡ 4096) ⌝ }
@@ -80,7 +93,7 @@ pub fn erase(chip: &mut [u8], b: usize, fuse: &mut u64, noise: &[u8])
     let block = &mut chip[a..a + 4096];
     *fuse = f - 1;
     if f == 1 {
-        blur(block, noise);
+        overwrite(block, noise);
         return;
     }
     clear(block);

@@ -1,5 +1,5 @@
 // Erase and write under the fault scripts 0 (the power is gone), 1 (it goes during the operation) and 2 (it stays), each with noise of all zeros,
-// of all ones and mixed. For each: the page's first byte and its copy, the sums of the page's halves, what the page is, what is left of the script, and how many bytes elsewhere changed.
+// of all ones, mixed, and forged: a block full of sound pages. For each: the page's first byte and its copy, the sums of the page's halves, what the page is, what is left of the script, and how many bytes elsewhere changed.
 use libc::STDOUT_FILENO;
 use record::Kind;
 ghost use mathlib.Core.Path.{_≡_};
@@ -15,20 +15,24 @@ fn byte(b: u8) {
     io::print_hex(STDOUT_FILENO, b as u64, 2);
 }
 
-// Fills the noise: 0, all zeros; 1, all ones; 2, mixed.
+// Fills the noise: 0, all zeros; 1, all ones; 2, mixed; 3, forged: on each page a value of the key that nobody put.
 fn make_noise(which: u8, noise: &mut [u8]) {
+    let forged = record::encode(false, b"key", b"forged");
     let mut i = 0;
     while i < noise.len() {
-        noise[i] = noise_byte(which, i);
+        noise[i] = noise_byte(which, &forged, i);
         i += 1;
     }
 }
 
-fn noise_byte(which: u8, i: usize) -> u8 {
+fn noise_byte(which: u8, forged: &[u8], i: usize) -> u8
+    requires { ⌜ length (now forged) ≡ 256 ⌝ }
+{
     match which {
         0 => 0,
         1 => 255,
-        _ => (i % 251) as u8,
+        2 => (i % 251) as u8,
+        _ => forged[i % 256],
     }
 }
 
@@ -36,7 +40,8 @@ fn print_noise(which: u8) {
     match which {
         0 => text(b", noise all zeros:"),
         1 => text(b", noise all ones: "),
-        _ => text(b", noise mixed:    "),
+        2 => text(b", noise mixed:    "),
+        _ => text(b", noise forged:   "),
     }
 }
 
@@ -182,7 +187,7 @@ fn try_all(chip: &mut [u8], before: &mut [u8], noise: &mut [u8])
 {
     set_up(before, noise);
     let mut which: u8 = 0;
-    while which < 3 {
+    while which < 4 {
         make_noise(which, noise);
         try_noise(chip, before, noise, which);
         which += 1;

@@ -511,30 +511,38 @@ fn every_second(first: &[u8; 4096], second: &[u8; 4096]) -> Tally {
 
 // ---- the noises
 
-// Byte i of the noise: 0, all zeros; 1, all ones; 2, mixed; 3, zeros on the page of "put a = 2", which so stays as it was, and ones elsewhere.
-fn noise_byte(which: u8, i: usize) -> u8 {
+// Byte i of the noise, by the page of "put a = 2": 0, all zeros; 1, all ones; 2, mixed; 3, that page at its place and ones elsewhere, so that an erase leaves it as it
+// was; 4, that page again and again, so that an erase leaves a block full of sound pages, and sealed.
+fn noise_byte(which: u8, page: &[u8], i: usize) -> u8
+    requires { ⌜ length (now page) ≡ 256 ⌝ }
+{
     match which {
         0 => 0,
         1 => 255,
         2 => (i % 251) as u8,
-        _ => page_kept(i),
+        3 => kept_byte(page, i),
+        _ => page[i % 256],
     }
 }
 
-// 0 for the bytes of a block's page 1, and else 255.
-fn page_kept(i: usize) -> u8 {
+// The page at a block's page 1, and else 255.
+fn kept_byte(page: &[u8], i: usize) -> u8
+    requires { ⌜ length (now page) ≡ 256 ⌝ }
+{
     if i / 256 == 1 {
-        return 0;
+        return page[i % 256];
     }
     255
 }
 
 // The noise of that number.
 fn make_noise(which: u8) -> [u8; 4096] {
+    let two = [2u8];
+    let page = record::encode(false, b"a", &two);
     let mut noise = [0u8; 4096];
     let mut i = 0;
     while i < 4096 {
-        noise[i] = noise_byte(which, i);
+        noise[i] = noise_byte(which, &page, i);
         i += 1;
     }
     noise
@@ -556,7 +564,7 @@ fn same(a: &[u8], b: &[u8]) -> bool
     true
 }
 
-// Whether the first block is half erased: the page of "put a = 2" is as it was, and the note of the deletion after it is gone.
+// Whether the first block is half erased: the page of "put a = 2" stands there, and after it no note of the deletion.
 fn half_erased(chip: &[u8]) -> bool
     requires { ⌜ length (now chip) ≡ 16384 ⌝ }
 {
@@ -595,7 +603,7 @@ fn a_after(noise: &[u8; 4096], t: u64) -> u8 {
     value_now(&chip, &work, 0)
 }
 
-// For each operation that leaves the first block half erased: whether the map then has no a.
+// For each operation that leaves the first block half erased (its first erase leaves the page as it was, its second brings it back): whether the map then has no a.
 fn step_five(noise: &[u8; 4096]) {
     let mut t: u64 = 1;
     while t < 300 {
@@ -624,7 +632,7 @@ fn number(before: &[u8], n: u64) {
 fn print_five(t: u64, v: u8) {
     number(b"operation ", t);
     text(
-        b" is cut: the first block is half erased, with the page of 'put a = 2' as it was. After a start the map has ",
+        b" is cut: the erase of the first block leaves the page of 'put a = 2', and blank pages elsewhere. After a start the map has ",
     );
     if v == 0 {
         text(b"no a\n");
@@ -639,7 +647,8 @@ fn print_noise(which: u8) {
         0 => text(b"noise all zeros"),
         1 => text(b"noise all ones"),
         2 => text(b"noise mixed"),
-        _ => text(b"noise that keeps page 1"),
+        3 => text(b"noise that keeps page 1"),
+        _ => text(b"noise that forges a = 2"),
     }
 }
 
@@ -677,6 +686,7 @@ fn try_again(which: u8) {
     try_pair(which, 1);
     try_pair(which, 2);
     try_pair(which, 3);
+    try_pair(which, 4);
 }
 
 // Every cut with every noise, and step 5; then every second cut with every two noises.
@@ -685,10 +695,12 @@ fn main() {
     try_noise(1);
     try_noise(2);
     try_noise(3);
+    try_noise(4);
     let noise = make_noise(3);
     step_five(&noise);
     try_again(0);
     try_again(1);
     try_again(2);
     try_again(3);
+    try_again(4);
 }

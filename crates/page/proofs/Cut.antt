@@ -70,26 +70,15 @@ ors-grow (x ∷ xs) [] (suc i) = ors-grow xs [] i
 ors-grow (x ∷ xs) (n ∷ ns) zero = or-grows x n
 ors-grow (x ∷ xs) (n ∷ ns) (suc i) = ors-grow xs ns i
 
--- ---- what writes and erases, whole or cut, leave of a page: no pair of bytes adds up to less than 255
-abbrev pub Tame : List ℕ → Type 0
-Tame pg = (i : ℕ) → i < 128 → 255 ≤ byte pg i + byte pg (128 + i)
-
-pub sound-tame : (pg : List ℕ) → sound pg ≡ true → Tame pg
-sound-tame pg h i l = omega (arith, sound-at pg h i l)
-
--- such a page in which 0 bits turned to 1 is not sound unless it is unchanged
-pub tame-same : (pg ns : List ℕ) → length pg ≡ 256 → Tame pg → sound (ors pg ns) ≡ true → ors pg ns ≡ pg
-tame-same pg ns len t s = ext-getD 0 (ors pg ns) pg (length-each bitOr pg ns) (λ i l. go i (decLt i 128) (omega (arith, length-each bitOr pg ns)))
+-- THE PAGE LAW: a sound page with some 0 bits turned to 1 is not sound unless it is unchanged. So a cut write that reads as sound is exactly what was meant
+pub sound-same : (pg ns : List ℕ) → length pg ≡ 256 → sound pg ≡ true → sound (ors pg ns) ≡ true → ors pg ns ≡ pg
+sound-same pg ns len h s = ext-getD 0 (ors pg ns) pg (length-each bitOr pg ns) (λ i l. go i (decLt i 128) (omega (arith, length-each bitOr pg ns)))
   where
     go : (i : ℕ) → Dec (i < 128) → i < 256 → byte (ors pg ns) i ≡ byte pg i
-    go i (yes d) l = omega (arith, t i d, sound-at (ors pg ns) s i d, ors-grow pg ns i, ors-grow pg ns (128 + i))
+    go i (yes d) l = omega (arith, sound-at pg h i d, sound-at (ors pg ns) s i d, ors-grow pg ns i, ors-grow pg ns (128 + i))
     go i (no d) l =
         let j : ℕ = i - 128 in
         let e : 128 + j ≡ i = omega arith in
         let m : j < 128 = omega arith in
-        let k : byte (ors pg ns) (128 + j) ≡ byte pg (128 + j) = omega (arith, t j m, sound-at (ors pg ns) s j m, ors-grow pg ns j, ors-grow pg ns (128 + j)) in
+        let k : byte (ors pg ns) (128 + j) ≡ byte pg (128 + j) = omega (arith, sound-at pg h j m, sound-at (ors pg ns) s j m, ors-grow pg ns j, ors-grow pg ns (128 + j)) in
         ap (byte (ors pg ns)) (sym e) ∙ k ∙ ap (byte pg) e
-
--- THE PAGE LAW: a sound page with some 0 bits turned to 1 is not sound unless it is unchanged. So a cut write that reads as sound is exactly what was meant
-pub sound-same : (pg ns : List ℕ) → length pg ≡ 256 → sound pg ≡ true → sound (ors pg ns) ≡ true → ors pg ns ≡ pg
-sound-same pg ns len s = tame-same pg ns len (sound-tame pg s)

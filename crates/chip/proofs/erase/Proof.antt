@@ -11,7 +11,7 @@ unfolding erased power
 returns c = search needs
 
 returns-2 : tie.Need-returns-2
-returns-2 c = (erase-cut _ _ _ _ _ (c .before .before .before .before .before .before .before .before .before .pre .0) (omega arith) (c .before .before .blur .ensures), search needs)
+returns-2 c = (search (needs, erase-cut), search needs)
 
 returns-3 : tie.Need-returns-3
 returns-3 c = (erase-whole _ _ _ _ _ (c .before .before .before .before .before .before .before .before .before .pre .0) (omega arith) (c .before .before .clear .ensures), search needs)

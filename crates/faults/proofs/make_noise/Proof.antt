@@ -7,10 +7,10 @@ use Rattle.faults.proofs.make_noise.Statement.{statement}
 use Rattle.faults.proofs.make_noise.Tie as tie
 
 abbrev Inv-loop : tie.InvT-loop
-Inv-loop which noise₀ i₀ noise i = (i ≤ length noise₀) × (length noise ≡ length noise₀)
+Inv-loop which noise₀ forged i₀ noise i = (i ≤ length noise₀) × (length noise ≡ length noise₀) × (length forged ≡ 256)
 
 abbrev μ-loop : tie.MeasureT-loop
-μ-loop which noise₀ i₀ noise i = length noise₀ - i
+μ-loop which noise₀ forged i₀ noise i = length noise₀ - i
 
 pub make-noise-spec : {M : Type 1} → statement M
 make-noise-spec =
@@ -18,6 +18,10 @@ make-noise-spec =
     (tie.spec
     Inv-loop
     μ-loop
+    (λ c. search needs)
+    (λ c. search needs)
+    (λ c κs. search needs)
+    (λ c. search needs)
     (λ c. search needs)
     (λ c κs. search needs)
     (λ c. search needs)

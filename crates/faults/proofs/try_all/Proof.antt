@@ -7,10 +7,10 @@ use Rattle.faults.proofs.try_all.Statement.{statement}
 use Rattle.faults.proofs.try_all.Tie as tie
 
 abbrev Inv-loop : tie.InvT-loop
-Inv-loop chip₀ before noise₀ which₀ chip noise which = (which ≤ 3) × (length chip ≡ 8192) × (length before ≡ 8192) × (length noise ≡ 4096)
+Inv-loop chip₀ before noise₀ which₀ chip noise which = (which ≤ 4) × (length chip ≡ 8192) × (length before ≡ 8192) × (length noise ≡ 4096)
 
 abbrev μ-loop : tie.MeasureT-loop
-μ-loop chip₀ before noise₀ which₀ chip noise which = 3 - which
+μ-loop chip₀ before noise₀ which₀ chip noise which = 4 - which
 
 pub try-all-spec : {M : Type 1} → statement M
 try-all-spec =

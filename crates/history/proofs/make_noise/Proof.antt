@@ -7,10 +7,10 @@ use Rattle.history.proofs.make_noise.Statement.{statement}
 use Rattle.history.proofs.make_noise.Tie as tie
 
 abbrev Inv-loop : tie.InvT-loop
-Inv-loop which noise₀ i₀ noise i = (i ≤ 4096) × (length noise ≡ 4096)
+Inv-loop which page noise₀ i₀ noise i = (i ≤ 4096) × (length noise ≡ 4096) × (length page ≡ 256)
 
 abbrev μ-loop : tie.MeasureT-loop
-μ-loop which noise₀ i₀ noise i = 4096 - i
+μ-loop which page noise₀ i₀ noise i = 4096 - i
 
 pub make-noise-spec : {M : Type 1} → statement M
 make-noise-spec =
@@ -18,6 +18,10 @@ make-noise-spec =
     (tie.spec
     Inv-loop
     μ-loop
+    (λ c. search needs)
+    (λ c. search needs)
+    (λ c κs. search needs)
+    (λ c. search needs)
     (λ c. search needs)
     (λ c κs. search needs)
     (λ c. search needs)
