@@ -12,7 +12,7 @@ static uint32_t work[FLOATSTORE_WORK_LEN(BLOCKS)];
 static uint8_t noise[FLOATSTORE_NOISE];
 static uint64_t fuse = FLOATSTORE_NO_FAULT;
 
-/* The five calls of a life, with what is always lent written once. */
+/* The calls of a life, with what is always lent written once. */
 static int64_t start(void) { return floatstore_start(chip, sizeof chip, work, FLOATSTORE_WORK_LEN(BLOCKS), &fuse); }
 static int64_t put(const char *key, const void *value, size_t len) {
     return floatstore_put(chip, sizeof chip, work, FLOATSTORE_WORK_LEN(BLOCKS), &fuse, noise, (const uint8_t *)key, strlen(key), value, len);
@@ -24,6 +24,10 @@ static int64_t del(const char *key) {
     return floatstore_delete(chip, sizeof chip, work, FLOATSTORE_WORK_LEN(BLOCKS), &fuse, noise, (const uint8_t *)key, strlen(key));
 }
 static int64_t count(void) { return floatstore_count(chip, sizeof chip, work, FLOATSTORE_WORK_LEN(BLOCKS), &fuse); }
+
+static int64_t next(const char *key, char *buffer, size_t len) {
+    return floatstore_next(chip, sizeof chip, work, FLOATSTORE_WORK_LEN(BLOCKS), &fuse, (const uint8_t *)key, strlen(key), (uint8_t *)buffer, len);
+}
 
 /* After a reset: start, and nothing else. Only a chip that isn't this store's answers -8: format it in the workshop. */
 static int boot(void) {
@@ -56,6 +60,19 @@ static int surface(int first, int last) {
     return 1;
 }
 
+/* Every key, in the order of bytes: each call is given the key that the last one gave, the first one none. */
+static void list(void) {
+    char key[FLOATSTORE_MAX_KEY + 1], last[FLOATSTORE_MAX_KEY + 1] = "";
+    int64_t len;
+    printf("keys:");
+    while ((len = next(last, key, FLOATSTORE_MAX_KEY)) > 0) {
+        key[len] = 0;
+        printf(" %s", key);
+        strcpy(last, key);
+    }
+    printf("\n");
+}
+
 int main(void) {
     memset(chip, 0xFF, sizeof chip); /* as it comes from the maker: blank, and so a store with an empty map */
     int32_t depth = 1500, before = 0;
@@ -72,6 +89,7 @@ int main(void) {
     fuse = FLOATSTORE_NO_FAULT;
     if (!boot() || get("park.depth", &before, sizeof before) != sizeof before) return 1;
     printf("after the start the depth is %" PRId32 ", one of 1500 and 2000\n", before);
+    list();
     if (put("park.depth", &depth, sizeof depth) < 0 || !surface(1, 2)) return 1;
     printf("%" PRId64 " key has a value\n", count());
     return before == 1500 || before == 2000 ? 0 : 1;

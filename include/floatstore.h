@@ -15,7 +15,8 @@
  * library. A pointer with a length of 0 must still not be null. Nothing else is asked of a caller: any lengths, any bytes on
  * the chip, any bytes in the work area are answered, with a refusal where they make no sense.
  *
- * WHAT A CALL ANSWERS. At least 0: it is done (get: the value's length; count: the number of keys; the others: 0).
+ * WHAT A CALL ANSWERS. At least 0: it is done (get: the value's length; next: the key's; count: the number
+ * of keys; the others: 0).
  * Below 0: refused, minus a number of enum floatstore_refusal; of several that apply, the first of the order 5, 7, 8, 1, 2, 4, 6, 3.
  * A call refused with 1 to 6 has changed nothing.
  *
@@ -32,7 +33,7 @@
  * After a cut, set *fuse anew and call floatstore_start.
  *
  * WHAT A CALL COSTS AT MOST. On a ready store with B blocks: put and delete 8(B-2)/15 + 1 erases and 8(B-2) + B page writes;
- * start, get and count none; format B erases. Over a life with n puts and deletes and q power failures: n/7 + q erases, and
+ * start, get, count and next none; format B erases. Over a life with n puts and deletes and q power failures: n/7 + q erases, and
  * any two blocks' erases differ by at most 1 + q.
  */
 #ifndef FLOATSTORE_H
@@ -50,7 +51,7 @@ extern "C" {
 #define FLOATSTORE_NOISE 4096u /* bytes of noise */
 #define FLOATSTORE_MIN_BLOCKS 4u
 #define FLOATSTORE_MAX_BLOCKS 4096u
-#define FLOATSTORE_MAX_KEY 16u /* bytes of a key, at least 1 */
+#define FLOATSTORE_MAX_KEY 16u /* bytes of a key, at least 1: a buffer of so many is long enough for every next */
 #define FLOATSTORE_MAX_VALUE 96u /* bytes of a value, 0 and more: a buffer of so many is long enough for every get */
 
 #define FLOATSTORE_CHIP_LEN(B) ((size_t)4096 * (size_t)(B)) /* bytes */
@@ -61,12 +62,12 @@ extern "C" {
 
 /* A call that is refused answers minus one of these. */
 enum floatstore_refusal {
-    FLOATSTORE_BAD_KEY = 1, /* the key's length is 0 or above 16 */
+    FLOATSTORE_BAD_KEY = 1, /* the key's length is 0 or above 16; next: above 16 */
     FLOATSTORE_LONG_VALUE = 2, /* put: the value is longer than 96 */
     FLOATSTORE_NO_ROOM = 3, /* put: the key has no value yet, and the map has 8(B-2) keys already */
-    FLOATSTORE_NO_VALUE = 4, /* get, delete: the key has no value */
+    FLOATSTORE_NO_VALUE = 4, /* get, delete: the key has no value; next: no larger key has one */
     FLOATSTORE_BAD_SIZE = 5, /* chip_len isn't 4,096 B for an allowed B, or the work area is too short */
-    FLOATSTORE_SHORT_BUFFER = 6, /* get: the buffer is shorter than the value, and was left unchanged */
+    FLOATSTORE_SHORT_BUFFER = 6, /* get, next: the buffer is shorter than the value or the key, and was left unchanged */
     FLOATSTORE_POWER_GONE = 7, /* the power has gone since the last start */
     FLOATSTORE_NOT_STARTED = 8, /* start: these bytes are no store; other calls: no start has succeeded since */
     FLOATSTORE_NUMBERS_OUT = 9 /* numbers have run out: this design has none, so it is never answered */
@@ -102,6 +103,13 @@ int64_t floatstore_delete(uint8_t *chip, size_t chip_len, uint32_t *work, size_t
 
 /* How many keys have a value. */
 int64_t floatstore_count(const uint8_t *chip, size_t chip_len, const uint32_t *work, size_t work_len, const uint64_t *fuse);
+
+/* The next larger key that has a value, in the order of bytes, a shorter key before its longer continuations; key_len = 0 asks for the first. Its length; the key
+ * stands at the start of the buffer, and the rest of the buffer is unchanged. To list the keys, give each call the key that the last one gave, until one answers
+ * -FLOATSTORE_NO_VALUE: each key is given once. Between the calls anything may happen, puts, deletes, power failures and starts: no key is given twice, and a key
+ * that has a value all the while is given. */
+int64_t floatstore_next(const uint8_t *chip, size_t chip_len, const uint32_t *work, size_t work_len, const uint64_t *fuse,
+                        const uint8_t *key, size_t key_len, uint8_t *buffer, size_t buffer_len);
 
 #ifdef __cplusplus
 }

@@ -1,4 +1,4 @@
-/* The six calls from C, and the start that says what it saw: both sides of each limit of document 01, sections 3 and 5, on chips of up to 4,096 blocks, and one key put a million times. */
+/* The six calls from C, the next key, and the start that says what it saw: both sides of each limit of document 01, sections 3 and 5, on chips of up to 4,096 blocks, and one key put a million times. */
 #include <floatstore.h>
 #include <stdio.h>
 #include <stdlib.h>
@@ -11,6 +11,7 @@ int64_t floatstore_put   (uint8_t *chip, size_t chip_len, uint32_t *work, size_t
 int64_t floatstore_get   (const uint8_t *chip, size_t chip_len, const uint32_t *work, size_t work_len, const uint64_t *fuse, const uint8_t *key, size_t key_len, uint8_t *buffer, size_t buffer_len); /* the length */
 int64_t floatstore_delete(uint8_t *chip, size_t chip_len, uint32_t *work, size_t work_len, uint64_t *fuse, const uint8_t *noise, const uint8_t *key, size_t key_len);
 int64_t floatstore_count (const uint8_t *chip, size_t chip_len, const uint32_t *work, size_t work_len, const uint64_t *fuse); /* the count */
+int64_t floatstore_next(const uint8_t *chip, size_t chip_len, const uint32_t *work, size_t work_len, const uint64_t *fuse, const uint8_t *key, size_t key_len, uint8_t *buffer, size_t buffer_len);
 
 static uint8_t *chip, noise[FLOATSTORE_NOISE];
 static uint32_t *work;
@@ -32,6 +33,9 @@ static int64_t put(const void *key, size_t key_len, const void *value, size_t le
 }
 static int64_t get(const void *key, size_t key_len, void *buffer, size_t len) {
     return floatstore_get(chip, chip_len, work, work_len, &fuse, key, key_len, buffer, len);
+}
+static int64_t next(const void *key, size_t key_len, void *buffer, size_t len) {
+    return floatstore_next(chip, chip_len, work, work_len, &fuse, key, key_len, buffer, len);
 }
 static int64_t del(const void *key, size_t key_len) { return floatstore_delete(chip, chip_len, work, work_len, &fuse, noise, key, key_len); }
 
@@ -56,6 +60,8 @@ static void all_refused(int k) {
     IS(-k, put("a", 1, "1", 1));
     IS(-k, get("a", 1, b, sizeof b));
     IS(-k, del("a", 1));
+    IS(-k, next("", 0, b, sizeof b));
+    IS(-k, next("0123456789abcdefg", 17, b, 0));
 }
 
 static void sizes(void) {
@@ -223,8 +229,140 @@ static void seeing(void) {
     IS(15, s.blank + s.sound + s.spoilt + s.page + s.byte);
 }
 
+/* The key after this one is `want`, and past it the buffer is as it was; a buffer of just its length will do, and one byte less is refused and left as it was. */
+static void follows(const void *key, size_t key_len, const void *want, size_t want_len) {
+    uint8_t b[17];
+    memset(b, 0x5C, sizeof b);
+    IS(-6, next(key, key_len, b, want_len - 1));
+    for (size_t i = 0; i < sizeof b; i++) IS(0x5C, b[i]);
+    IS(want_len, next(key, key_len, b, want_len));
+    IS(0, memcmp(b, want, want_len));
+    for (size_t i = want_len; i < sizeof b; i++) IS(0x5C, b[i]);
+}
+
+/* The record of a key with an empty value, by docs/FORMAT.md, on a page of the chip: keys that came there by other ways than put. */
+static void plant(size_t page, const void *key, uint8_t key_len) {
+    uint8_t *at = chip + 256 * page;
+    memset(at, 0, 128);
+    at[0] = at[1] = 1;
+    at[2] = key_len;
+    memcpy(at + 16, key, key_len);
+    for (size_t i = 0; i < 128; i++) at[128 + i] = (uint8_t)~at[i];
+}
+
+static void next_key(void) {
+    uint8_t b[17];
+    lend(4);
+    IS(0, start());
+    IS(-4, next("", 0, b, 16)); /* an empty store */
+    IS(-4, next("", 0, b, 0));
+    IS(-4, next("0123456789abcdef", 16, b, 16));
+    IS(-1, next("0123456789abcdefg", 17, b, 16));
+    IS(0, put("b", 1, "", 0));
+    IS(0, put("aa", 2, "", 0));
+    IS(0, put("a", 1, "", 0));
+    IS(0, put("zzzzzzzzzzzzzzzz", 16, "", 0));
+    follows("", 0, "a", 1); /* a shorter key before its longer continuations, and these before a larger byte */
+    follows("a", 1, "aa", 2);
+    follows("aa", 2, "b", 1);
+    follows("b", 1, "zzzzzzzzzzzzzzzz", 16);
+    IS(-4, next("zzzzzzzzzzzzzzzz", 16, b, 16));
+    follows("A", 1, "a", 1); /* the key that is given need not have a value */
+    follows("a!", 2, "aa", 2);
+    follows("aaaaaaaaaaaaaaaa", 16, "b", 1);
+    follows("zzzzzzzzzzzzzzz", 15, "zzzzzzzzzzzzzzzz", 16);
+    IS(-4, next("zzzzzzzzzzzzzzzz{", 16, b, 0));
+    IS(-1, next("zzzzzzzzzzzzzzzz{", 17, b, 0));
+    IS(0, del("aa", 2));
+    follows("a", 1, "b", 1);
+    follows("aa", 2, "b", 1);
+    IS(0, start());
+    follows("", 0, "a", 1);
+    lend(4); /* bytes are compared as 0 to 255 */
+    plant(0, "\xFF", 1);
+    plant(1, "\x80", 1);
+    plant(2, "\x7F\xFF", 2);
+    plant(3, "\0", 1);
+    plant(4, "\0\0", 2);
+    plant(5, "\x7F", 1);
+    IS(0, start());
+    follows("", 0, "\0", 1);
+    follows("\0", 1, "\0\0", 2);
+    follows("\0\0", 2, "\x7F", 1);
+    follows("\x7F", 1, "\x7F\xFF", 2);
+    follows("\x7F\xFF", 2, "\x80", 1);
+    follows("\x80", 1, "\xFF", 1);
+    IS(-4, next("\xFF", 1, b, 16));
+}
+
+/* A walk over a store with as many keys as it holds: all of them, in their order. */
+static void walk(size_t blocks) {
+    char want[17];
+    uint8_t key[16] = {0}, b[16];
+    size_t room = FLOATSTORE_ROOM(blocks), key_len = 0, n;
+    int64_t len = 0;
+    lend(blocks);
+    IS(0, start());
+    for (n = 0; n < room; n++) {
+        snprintf(want, sizeof want, "k%05zu", n * 7919 % room); /* a prime that doesn't divide room: each number once */
+        if (put(want, 6, "", 0) != 0) break;
+    }
+    IS(room, n);
+    for (n = 0; n <= room && (len = next(key, key_len, b, sizeof b)) >= 0; n++) {
+        snprintf(want, sizeof want, "k%05zu", n);
+        if (len != 6 || memcmp(b, want, 6) != 0) break;
+        memcpy(key, b, key_len = 6);
+    }
+    IS(-4, len);
+    IS(room, n);
+}
+
+/* A walk while other keys are put and deleted, a block is opened, and the power fails: each of the ten keys that stay is given once, and no key twice. */
+static void walk_with_changes(void) {
+    static uint32_t seed = 1;
+    for (int round = 0; round < 2000; round++) {
+        char key[17] = "", last[17] = "";
+        int given[10] = {0}, calls = 0;
+        int64_t len;
+        lend(4);
+        IS(0, start());
+        for (int i = 0; i < 10; i++) {
+            snprintf(key, sizeof key, "%d", i);
+            IS(0, put(key, 1, "stays", 5));
+        }
+        key[0] = 0;
+        while ((len = next(last, strlen(last), key, 16)) > 0) {
+            key[len] = 0;
+            if (strcmp(last, key) >= 0 || ++calls > 1000) break;
+            if (len == 1) given[key[0] - '0']++;
+            strcpy(last, key);
+            for (int changes = 3; changes > 0; changes--) { /* keys between those that stay, of which at most 6 fit in */
+                char other[3] = {0};
+                seed = seed * 1664525 + 1013904223;
+                other[0] = (char)('0' + (seed >> 8) % 10), other[1] = (char)('a' + (seed >> 16) % 3);
+                if (seed >> 31) put(other, 2, "x", 1);
+                else del(other, 2);
+                if ((seed >> 24) % 16 == 0) {
+                    fuse = 1;
+                    put(other, 2, "y", 1);
+                    fuse = FLOATSTORE_NO_FAULT;
+                    IS(0, start());
+                }
+            }
+        }
+        IS(-4, len);
+        for (int i = 0; i < 10; i++) IS(1, given[i]);
+        if (wrong) return;
+    }
+}
+
 int main(void) {
     seeing();
+    next_key();
+    walk(4);
+    walk(5);
+    walk(4096);
+    walk_with_changes();
     sizes();
     arguments();
     power();

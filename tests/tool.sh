@@ -54,6 +54,12 @@ says 2000 get a.img depth
 says 2 count a.img
 says $'hex:00ff\t\ndepth\t2000' list a.img
 says '' delete a.img hex:00ff
+says '' format order.img 4 && says '' list order.img
+for key in b ab a aab aa '~' '!'; do says '' put order.img "$key" "<$key>"; done
+says $'!\t<!>\na\t<a>\naa\t<aa>\naab\t<aab>\nab\t<ab>\nb\t<b>\n~\t<~>' list order.img
+says '' delete order.img aab && says '' put order.img aaa ''
+says $'!\t<!>\na\t<a>\naa\t<aa>\naaa\t\nab\t<ab>\nb\t<b>\n~\t<~>' list order.img
+rm order.img
 says 1 count a.img
 says '' put a.img -- --key '--value'
 says --value get a.img -- --key

@@ -20,7 +20,7 @@ static const char help_text[] =
     "  floatstore get IMAGE KEY            its value\n"
     "  floatstore delete IMAGE KEY         the key has no value any more\n"
     "  floatstore count IMAGE              how many keys have a value\n"
-    "  floatstore list IMAGE               every key and its value\n"
+    "  floatstore list IMAGE               every key and its value, in the order of the keys' bytes\n"
     "  floatstore check IMAGE              pages by kind, head, spare, sealed blocks, what a cut left behind; reads the map twice, by two ways\n"
     "  floatstore map IMAGE [--svg FILE]   a picture of the ring, a character for each page; or as SVG, to a file\n"
     "  floatstore help                     this page\n"
@@ -125,6 +125,9 @@ static void save(const char *name, const void *bytes, size_t len) {
 static void start(void) { done(image.name, floatstore_start(image.chip, image.len, image.work, image.words, &image.fuse)); }
 static int64_t get(const uint8_t *key, size_t key_len, uint8_t *buffer, size_t len) {
     return floatstore_get(image.chip, image.len, image.work, image.words, &image.fuse, key, key_len, buffer, len);
+}
+static int64_t next(const uint8_t *key, size_t key_len, uint8_t *buffer, size_t len) {
+    return floatstore_next(image.chip, image.len, image.work, image.words, &image.fuse, key, key_len, buffer, len);
 }
 static int64_t count(void) { return done(image.name, floatstore_count(image.chip, image.len, image.work, image.words, &image.fuse)); }
 
@@ -291,20 +294,19 @@ static void read_image(struct reading *r) {
 }
 
 static void do_list(char **argv) {
-    struct reading r;
+    uint8_t key[FLOATSTORE_MAX_KEY], last[FLOATSTORE_MAX_KEY] = {0}, value[FLOATSTORE_MAX_VALUE];
+    int64_t len = 0;
     load(argv[2]);
     start();
-    read_image(&r);
-    for (size_t p = 0; p < 16 * r.blocks; p++) {
-        const uint8_t *page = image.chip + 256 * p;
-        uint8_t value[FLOATSTORE_MAX_VALUE];
-        if (r.kinds[p] != LIVE) continue;
-        size_t len = (size_t)done(image.name, get(page + 16, page[2], value, sizeof value));
-        show(page + 16, page[2]);
+    while ((len = next(last, (size_t)len, key, sizeof key)) >= 0) {
+        int64_t value_len = done(image.name, get(key, (size_t)len, value, sizeof value));
+        show(key, (size_t)len);
         putchar('\t');
-        show(value, len);
+        show(value, (size_t)value_len);
         putchar('\n');
+        memcpy(last, key, (size_t)len);
     }
+    if (len != -FLOATSTORE_NO_VALUE) done(image.name, len);
 }
 
 /* ---- check */

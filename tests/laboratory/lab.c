@@ -28,9 +28,10 @@ struct store {
     int64_t (*get)(const uint8_t *, size_t, const uint32_t *, size_t, const uint64_t *, const uint8_t *, size_t, uint8_t *, size_t);
     int64_t (*delete)(uint8_t *, size_t, uint32_t *, size_t, uint64_t *, const uint8_t *, const uint8_t *, size_t);
     int64_t (*count)(const uint8_t *, size_t, const uint32_t *, size_t, const uint64_t *);
+    int64_t (*next)(const uint8_t *, size_t, const uint32_t *, size_t, const uint64_t *, const uint8_t *, size_t, uint8_t *, size_t); /* the twin has none */
 };
-static const struct store library = {floatstore_format, floatstore_start, floatstore_put, floatstore_get, floatstore_delete, floatstore_count};
-static const struct store twin = {twin_format, twin_start, twin_put, twin_get, twin_delete, twin_count};
+static const struct store library = {floatstore_format, floatstore_start, floatstore_put, floatstore_get, floatstore_delete, floatstore_count, floatstore_next};
+static const struct store twin = {twin_format, twin_start, twin_put, twin_get, twin_delete, twin_count, NULL};
 static const struct store *store;
 
 static void found(const char *form, ...);
@@ -68,7 +69,7 @@ static int64_t both_delete(uint8_t *chip, size_t len, uint32_t *work, size_t wor
     return answer;
 }
 
-static const struct store both = {floatstore_format, floatstore_start, both_put, floatstore_get, both_delete, floatstore_count};
+static const struct store both = {floatstore_format, floatstore_start, both_put, floatstore_get, both_delete, floatstore_count, floatstore_next};
 
 /* ---- the model: keys are numbered, and the map is an array */
 
@@ -149,6 +150,20 @@ static size_t differs(struct world *w, const struct map *m) {
     for (size_t i = 0; i < KEYS; i++)
         if (!key_agrees(w, m, i)) return i;
     return count(w) == (int64_t)m->count ? KEYS : KEYS + 1;
+}
+
+/* A walk from none to the end gives the model's keys, which are numbered in their order. */
+static int same_by_walk(struct world *w, const struct map *m) {
+    uint8_t want[16], given[16], last[16] = {0};
+    size_t last_len = 0;
+    for (size_t i = 0; store->next && i <= KEYS; i++) {
+        if (i < KEYS && !m->of[i].has) continue;
+        int64_t len = store->next(w->chip, w->chip_len, w->work, w->work_len, &w->fuse, last, last_len, given, sizeof given);
+        if (i == KEYS) return len == -4;
+        if (len != (int64_t)key_of(i, want) || memcmp(given, want, (size_t)len) != 0) return 0;
+        memcpy(last, given, last_len = (size_t)len);
+    }
+    return 1;
 }
 
 /* ---- the adversary's noise. A cut write leaves new | noise; a cut erase leaves the noise itself, so that any block can be forged */
@@ -324,6 +339,7 @@ static void cut(struct world *w, struct map *m, const struct change *c, size_t k
             found("key %zu is neither as before nor as after", i);
         }
     }
+    if (!same_by_walk(w, m)) found("a walk does not give the keys of the map");
     tally.at = "";
 }
 
@@ -463,7 +479,7 @@ static void history(uint64_t seed) {
             if (chance(20) == 0 && start(&now) != 0) found("a start is refused");
             if (!key_agrees(&now, &map, c.key) || (chance(8) == 0 && differs(&now, &map) != KEYS)) found("the map is wrong after a whole call");
         }
-        if (differs(&now, &map) != KEYS) found("the map is wrong at the end of a phase");
+        if (differs(&now, &map) != KEYS || !same_by_walk(&now, &map)) found("the map is wrong at the end of a phase");
     }
     tally.histories++;
 }

@@ -1,4 +1,4 @@
-// The store for C (include/floatstore.h): the six calls, and a start that says what it saw, with answers as numbers. At least 0: done; below: minus the number of the refusal.
+// The store for C (include/floatstore.h): the six calls, the next key, and a start that says what it saw, with answers as numbers. At least 0: done; below: minus the number of the refusal.
 // Each contract is that of the store's call, of the answer whose number is answered; specs/Numbers.antt says which number that is.
 use store::Answer;
 ghost use mathlib.Core.Path.{_≡_};
@@ -6,6 +6,7 @@ ghost use Rattle.chip.specs.Play.{Did};
 ghost use Rattle.store.specs.Ends.{blocksOf, Got};
 ghost use Rattle.store.specs.Reads.{Counted};
 ghost use Rattle.store.specs.Calls.{PutEnds, DeleteEnds, GetEnds, CountEnds, StartEnds, FormatEnds};
+ghost use Rattle.keys.specs.Next.{NextEnds};
 ghost use Rattle.survey.specs.Seen.{Sees};
 ghost use Rattle.floatstore.specs.Numbers.{numberOf, held, Answers};
 ghost use lib.IntN.{pos, negℤ};
@@ -121,4 +122,18 @@ pub extern "C" fn floatstore_count(chip: &[u8], work: &[u32], fuse: &u64) -> i64
     ensures { λ r. ⌜ Answers (λ a. Counted (now (work .entry)) a × CountEnds (now (chip .entry)) (now (fuse .entry)) (now (work .entry)) a) r ⌝ }
 {
     number(store::count(chip, work, fuse))
+}
+
+// The next larger key that has a value; after none, the empty key, the first. Its length; the key stands at the start of the buffer, and the rest of the buffer is unchanged.
+#[no_mangle]
+pub extern "C" fn floatstore_next(
+    chip: &[u8],
+    work: &[u32],
+    fuse: &u64,
+    key: &[u8],
+    buffer: &mut [u8],
+) -> i64
+    ensures { λ r. ⌜ Answers (λ a. Got (now (buffer .entry)) (now (buffer .exit)) a × NextEnds (now (chip .entry)) (now (fuse .entry)) (now (work .entry)) (now (key .entry)) (now (buffer .entry)) (now (buffer .exit)) a) r ⌝ }
+{
+    number(keys::next(chip, work, fuse, key, buffer))
 }

@@ -27,7 +27,7 @@ use Rattle.store.specs.declared.Answer.{Answer}
 use Rattle.store.specs.declared.Answer.the-variants.{Done, Refused}
 use Rattle.store.proofs.Gets.{map-rows}
 use Rattle.store.proofs.Numbers.{sizes-hold}
-use Rattle.histories.specs.History.{Phase, off, on, started, failed, counted, History, begin, dark, start, put, delete, get, count, ToldBy, Tells}
+use Rattle.histories.specs.History.{Phase, off, on, started, failed, counted, History, begin, dark, start, put, delete, get, count, next, ToldBy, Tells}
 
 module _ (B : ℕ) (big : 4 ≤ B) where
   -- the area is as start and the calls since left it
@@ -175,6 +175,7 @@ module _ (B : ℕ) (big : 4 ≤ B) where
       step-lives (recordOf true key []) noise c f w c′ f′ w′ n q ops (deleteAnswer (lentOf c f w) key (mapIn c)) r e (λ m d. lit-by f _ _ _ m d) (lives h)
   lives (get key b b′ r e h) = lives h
   lives (count r e h) = lives h
+  lives (next key b b′ r e h) = lives h
 
   -- THEOREM RIGHT, AND CRASH-PROOF: after every history the chip's map is one that the documents allow, and every answer was document 01's
   pub right : {s : Phase} {c : List ℕ} {n q : ℕ} {ops : List Op} (h : History B s c n q ops) → Tells h (mapIn c)
@@ -187,6 +188,7 @@ module _ (B : ℕ) (big : 4 ≤ B) where
       (mapIn c, right h, step-told (recordOf true key []) noise c f w c′ f′ w′ n q ops (deleteAnswer (lentOf c f w) key (mapIn c)) r e (lives h .tended))
   right (get key b b′ r e h) = (right h, e (lives h .tended))
   right (count r e h) = (right h, e (lives h .tended))
+  right (next key b b′ r e h) = (right h, e (lives h .tended))
 
   module _ {s : Phase} {c : List ℕ} {n q : ℕ} {ops : List Op} (h : History B s c n q ops) where
     -- START ALWAYS SUCCEEDS, where the sizes are allowed and there is power: the map is the one that was there

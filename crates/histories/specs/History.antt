@@ -1,5 +1,5 @@
 -- EVERY HISTORY: a blank chip, as a format leaves it; then calls of the store and failures of the power, in any order and with any arguments, each call but start after a start
--- that succeeded, each start with any fault script and any work area. The steps are the contracts of the public calls, word for word (crates/store/specs/Calls.antt, last part):
+-- that succeeded, each start with any fault script and any work area. The steps are the contracts of the public calls, word for word (crates/store/specs/Calls.antt, last part, and `NextEnds` of crates/keys/specs/Next.antt):
 -- whatever the code may do, it is one of these. Assumes nothing.
 use mathlib.Core.Path.{_≡_}
 use mathlib.Core.Logic.{_⊎_}
@@ -16,6 +16,7 @@ use Rattle.log.specs.Answers.{Answer as Says}
 use Rattle.store.specs.Calls.{lentOf, Gets, Counts, PutEnds, DeleteEnds, GetEnds, CountEnds, StartEnds}
 use Rattle.store.specs.declared.Answer.{Answer}
 use Rattle.store.specs.declared.Answer.the-variants.{Done, Refused}
+use Rattle.keys.specs.Next.{nextAnswer, NextEnds}
 
 -- the store is off: no start has succeeded since the beginning or since the power failed; or it is on, with a fault script (its number and its noise) and a work area
 pub data Phase : Type 0 where
@@ -51,6 +52,8 @@ pub data History (B : ℕ) : Phase → List ℕ → ℕ → ℕ → List Op → 
       → History B (on noise f w) c n q ops → History B (on noise f w) c n q ops
   count : {noise : List ℕ} {f : ℕ} {w c : List ℕ} {n q : ℕ} {ops : List Op} (r : Answer) → CountEnds c f w r
       → History B (on noise f w) c n q ops → History B (on noise f w) c n q ops
+  next : {noise : List ℕ} {f : ℕ} {w c : List ℕ} {n q : ℕ} {ops : List Op} (key b b′ : List ℕ) (r : Answer) → NextEnds c f w key b b′ r
+      → History B (on noise f w) c n q ops → History B (on noise f w) c n q ops
 
 -- ---- WHAT THE DOCUMENTS SAY OF A HISTORY, by a plain map
 
@@ -70,3 +73,4 @@ Tells (put {noise} {f} {w} {c} key value c′ f′ w′ r e h) m = (k : Map (Lis
 Tells (delete {noise} {f} {w} {c} key c′ f′ w′ r e h) m = (k : Map (List ℕ)) × Tells h k × ToldBy (deleteAnswer (lentOf c f w) key k) f′ r k m
 Tells (get {noise} {f} {w} {c} key b b′ r e h) m = Tells h m × Gets b b′ (getAnswer (lentOf c f w) key b m) r
 Tells (count {noise} {f} {w} {c} r e h) m = Tells h m × Counts (countAnswer (lentOf c f w) m) r
+Tells (next {noise} {f} {w} {c} key b b′ r e h) m = Tells h m × Gets b b′ (nextAnswer (lentOf c f w) key b m) r

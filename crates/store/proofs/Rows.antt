@@ -127,13 +127,6 @@ module _ (v b : List ℕ) where
   gets-all b′ l e =
       subst (λ (s : Says (ℕ × List ℕ)). Gets b b′ s (Done (length v))) (got-by false (lt-leb (suc (length b)) (length v) (omega arith))) (record { ends = (refl, e) })
 
--- the same where the value is known by another name
-pub gets-short-by : (v u b : List ℕ) → v ≡ u → length b < length v → Gets b b (gotten b (some u)) (Refused 6)
-gets-short-by v u b e l = subst (λ (x : List ℕ). Gets b b (gotten b (some x)) (Refused 6)) e (gets-short v b l)
-
-pub gets-all-by : (v u b : List ℕ) → v ≡ u → (b′ : List ℕ) → length v ≤ length b → b′ ≡ v ++ drop (length v) b → Gets b b′ (gotten b (some u)) (Done (length v))
-gets-all-by v u b e b′ l q = subst (λ (x : List ℕ). Gets b b′ (gotten b (some x)) (Done (length v))) e (gets-all v b b′ l q)
-
 -- ---- A VALUE IS FETCHED, by what the search found
 module _ (c ix : List ℕ) (n : ℕ) (k : Key) (f : Found) (within : Within n f) (finds : Ordered c (take n ix) → Finds (keysOf c (take n ix)) k f) where
   pub fetches-missing : (b : List ℕ) (i a : ℕ) → f ≡ Missing i → a ≡ 4 → Fetches c (take n ix) k b b (Refused a)
@@ -157,12 +150,13 @@ module _ (c ix : List ℕ) (n : ℕ) (k : Key) (f : Found) (within : Within n f)
               absurd (omega (arith, at-entry, index-inside c (take n ix) big size same k i (subst (Finds (keysOf c (take n ix)) k) e (finds (index-ordered c (take n ix) big size same)))));
         }
 
-    pub fetches-value : (b b′ : List ℕ) (r : Answer) → Gets b b′ (gotten b (some (valueAt c p))) r → Fetches c (take n ix) k b b′ r
-    fetches-value b b′ r g =
+    pub fetches-value : (b b′ : List ℕ) (r : Answer) (v : List ℕ) → v ≡ valueAt c p → Gets b b′ (gotten b (some v)) r → Fetches c (take n ix) k b b′ r
+    fetches-value b b′ r v w g =
         record {
           right = λ big size same.
               subst (λ (o : Option (List ℕ)). Gets b b′ (gotten b o) r)
-              (sym (index-value c (take n ix) big size same k i (subst (Finds (keysOf c (take n ix)) k) e (finds (index-ordered c (take n ix) big size same)))
+              (ap (λ (x : List ℕ). some x) w
+              ∙ sym (index-value c (take n ix) big size same k i (subst (Finds (keysOf c (take n ix)) k) e (finds (index-ordered c (take n ix) big size same)))
               ∙ ap (λ (x : ℕ). some (valueAt c x)) at-entry))
               g;
         }

@@ -13,7 +13,7 @@ ghost use mathlib.Core.List.{[]};
 ghost use mathlib.Core.Option.{some};
 ghost use Rattle.chip.specs.Chip.{blankAt};
 ghost use Rattle.chip.specs.Play.{Did};
-ghost use Rattle.record.specs.Record.{recordOf, valueAt};
+ghost use Rattle.record.specs.Record.{recordOf};
 ghost use Rattle.log.specs.Log.{pages};
 ghost use Rattle.log.specs.Ring.{chipOf, head, laterTest, ringTest, tableAt, nextTo, room, mostBlocks};
 ghost use Rattle.log.specs.Answers.{sizesTest, gotten};
@@ -55,7 +55,7 @@ fn blocks(chip: &[u8], work: &[u32]) -> usize
 }
 
 // The refusals 5, 7 and 8 of a call on a started store; 0 if none is due.
-fn unready(chip: &[u8], work: &[u32], fuse: u64) -> u32
+pub fn unready(chip: &[u8], work: &[u32], fuse: u64) -> u32
     ensures { λ r. ⌜ Tested (now (chip .entry)) fuse (now (work .entry)) 0 r ⌝ }
 {
     let b = blocks(chip, work);
@@ -317,22 +317,20 @@ pub fn delete(
 
 // ---- get and count
 
-// The value on page p goes to the start of the buffer.
-fn hand_out(chip: &[u8], p: usize, buffer: &mut [u8]) -> Answer
-    requires { ⌜ 256 * p + 256 ≤ length (now chip) ⌝ }
+// The bytes go to the start of the buffer. Answers how many they are.
+pub fn hand_out(bytes: &[u8], buffer: &mut [u8]) -> Answer
     ensures got { λ r. ⌜ Got (now (buffer .entry)) (now (buffer .exit)) r ⌝ }
-    ensures right { λ r. ⌜ Gets (now (buffer .entry)) (now (buffer .exit)) (gotten (now (buffer .entry)) (some (valueAt (now (chip .entry)) p))) r ⌝ }
+    ensures right { λ r. ⌜ Gets (now (buffer .entry)) (now (buffer .exit)) (gotten (now (buffer .entry)) (some (now (bytes .entry)))) r ⌝ }
 {
-    let value = record::value_at(chip, p);
-    if buffer.len() < value.len() {
+    if buffer.len() < bytes.len() {
         return Answer::Refused(6);
     }
     let mut i = 0;
-    while i < value.len() {
-        buffer[i] = value[i];
+    while i < bytes.len() {
+        buffer[i] = bytes[i];
         i += 1;
     }
-    Answer::Done(value.len())
+    Answer::Done(bytes.len())
 }
 
 // The value of the key, by the index.
@@ -347,7 +345,7 @@ fn fetch(chip: &[u8], index: &[u32], n: usize, key: &[u8], buffer: &mut [u8]) ->
             if chip.len() / 256 <= p {
                 return Answer::Refused(8);
             }
-            hand_out(chip, p, buffer)
+            hand_out(record::value_at(chip, p), buffer)
         }
         Found::Missing(_) => Answer::Refused(4),
     }

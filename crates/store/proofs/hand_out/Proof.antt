@@ -1,31 +1,31 @@
--- `store::hand_out` meets its contract. The invariant: i bytes of the value stand in the buffer. Assumes nothing.
+-- `store::hand_out` meets its contract. The invariant: i of the bytes stand in the buffer. Assumes nothing.
 use mathlib.Core.Path.{_≡_, refl, ap, _∙_}
 use Prim.Native.Nat.{ℕ, _-_, _≤_}
 use mathlib.Core.List.{List}
 use native.Mathlib.Omega.{arith}
 use lib.ListN.{length, getD, set, length-set}
-use Rattle.store.proofs.Rows.{handed, handed-next, handed-all, handed-rest, gets-short-by, gets-all-by}
+use Rattle.store.proofs.Rows.{handed, handed-next, handed-all, handed-rest, gets-short, gets-all}
 use borrow.Author.Needs.{needs}
 use Rattle.store.proofs.hand_out.Statement.{statement}
 use Rattle.store.proofs.hand_out.Tie as tie
 
 abbrev Inv-loop : tie.InvT-loop
-Inv-loop chip p buffer₀ value i₀ buffer i =
-    (i ≤ length value) × (length buffer ≡ length buffer₀) × (length value ≤ length buffer₀) × (buffer ≡ handed value buffer₀ i)
+Inv-loop bytes buffer₀ i₀ buffer i =
+    (i ≤ length bytes) × (length buffer ≡ length buffer₀) × (length bytes ≤ length buffer₀) × (buffer ≡ handed bytes buffer₀ i)
 
 abbrev μ-loop : tie.MeasureT-loop
-μ-loop chip p buffer₀ value i₀ buffer i = length value - i
+μ-loop bytes buffer₀ i₀ buffer i = length bytes - i
 
 returns : tie.Need-returns Inv-loop μ-loop
-returns c = (record { ends = refl }, gets-short-by _ _ _ (c .before .value-at .ensures) (omega arith))
+returns c = (record { ends = refl }, gets-short (c .before .args .bytes .now) (c .before .args .buffer .now) (omega arith))
 
 loop-holds : tie.Need-loop-holds Inv-loop μ-loop
 loop-holds c = (omega arith, refl, omega arith, refl)
 
 loop-again : tie.Need-loop-again Inv-loop μ-loop
 loop-again c = let l = c .before .before .loop in
-    let b : List ℕ = c .before .before .before .before .before .before .before .args .buffer .now in
-    let v : List ℕ = c .before .before .before .before .value-at .result .now in (
+    let b : List ℕ = c .before .before .before .before .args .buffer .now in
+    let v : List ℕ = c .before .before .before .before .args .bytes .now in (
       omega arith,
       simp length-set (l .inv .1),
       l .inv .2,
@@ -34,10 +34,10 @@ loop-again c = let l = c .before .before .loop in
 
 returns-2 : tie.Need-returns-2 Inv-loop μ-loop
 returns-2 c = let l = c .before .loop in
-    let b : List ℕ = c .before .before .before .before .before .before .args .buffer .now in
-    let v : List ℕ = c .before .before .before .value-at .result .now in
+    let b : List ℕ = c .before .before .before .args .buffer .now in
+    let v : List ℕ = c .before .before .before .args .bytes .now in
     let q = l .inv .3 ∙ handed-all v b (l .i) (omega arith) in
-    (record { ends = (l .inv .2, handed-rest v b (l .buffer) q) }, gets-all-by _ _ _ (c .before .before .before .value-at .ensures) (l .buffer) (l .inv .2) q)
+    (record { ends = (l .inv .2, handed-rest v b (l .buffer) q) }, gets-all v b (l .buffer) (l .inv .2) q)
 
 pub hand-out-spec : {M : Type 1} → statement M
 hand-out-spec =
@@ -45,7 +45,6 @@ hand-out-spec =
     (tie.spec
     Inv-loop
     μ-loop
-    (λ c κs. search needs)
     returns
     loop-holds
     (λ c. search needs)

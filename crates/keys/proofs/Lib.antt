@@ -1,0 +1,4 @@
+pub mod After
+pub mod Walks
+pub mod Chips
+pub mod Given
