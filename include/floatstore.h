@@ -1,6 +1,6 @@
 /* floatstore.h: a key-value store on a flash chip, safe against power failures. For C firmware.
  *
- * To its caller the store is a map: a key of 1 to 16 bytes has a value of 0 to 96 bytes, or none. Whatever a call was
+ * To its caller the store is a map: a key of 1 to 16 bytes (0x21 to 0x7E) has a value of 0 to 96 bytes, or none. Whatever a call was
  * doing when the power failed, after the next floatstore_start the map is the one before that call or the one after it.
  * The library behind this header, libfloatstore.a, is proved: docs/STATEMENTS.md says sentence by sentence what.
  *
@@ -62,7 +62,7 @@ extern "C" {
 
 /* A call that is refused answers minus one of these. */
 enum floatstore_refusal {
-    FLOATSTORE_BAD_KEY = 1, /* the key's length is 0 or above 16; next: above 16 */
+    FLOATSTORE_BAD_KEY = 1, /* the key's length is 0 (but for next) or above 16; put: or a byte of it is outside 0x21 to 0x7E */
     FLOATSTORE_LONG_VALUE = 2, /* put: the value is longer than 96 */
     FLOATSTORE_NO_ROOM = 3, /* put: the key has no value yet, and the map has 8(B-2) keys already */
     FLOATSTORE_NO_VALUE = 4, /* get, delete: the key has no value; next: no larger key has one */
@@ -89,7 +89,7 @@ struct floatstore_seen {
 /* The same start, which reads every page and fills *seen where it is done; refused, it leaves *seen as it was. */
 int64_t floatstore_start_seeing(const uint8_t *chip, size_t chip_len, uint32_t *work, size_t work_len, const uint64_t *fuse, struct floatstore_seen *seen);
 
-/* The key has this value from now on, whether or not it had one. */
+/* The key has this value from now on, whether or not it had one. Its bytes must be 0x21 to 0x7E; the other calls take any, so that old keys can be found and removed. */
 int64_t floatstore_put(uint8_t *chip, size_t chip_len, uint32_t *work, size_t work_len, uint64_t *fuse, const uint8_t *noise,
                        const uint8_t *key, size_t key_len, const uint8_t *value, size_t value_len);
 

@@ -1,4 +1,5 @@
 /* The six calls from C, the next key, and the start that says what it saw: both sides of each limit of document 01, sections 3 and 5, on chips of up to 4,096 blocks, and one key put a million times. */
+#include "../tools/letters.h"
 #include <floatstore.h>
 #include <stdio.h>
 #include <stdlib.h>
@@ -89,28 +90,29 @@ static void sizes(void) {
 
 /* Fills a chip of B blocks to its last key, one more is refused, and all is there after a start. */
 static void fill(size_t blocks) {
-    uint8_t b[96];
+    uint8_t b[96], key[LETTERS], first[LETTERS];
     size_t room = FLOATSTORE_ROOM(blocks), n;
+    letters(first, 0);
     lend(blocks);
     IS(0, start());
     for (n = 0; n < room; n++) {
-        uint32_t key = (uint32_t)n * 2654435761u;
-        if (put(&key, 4, &n, 4) != 0) break;
+        letters(key, (uint32_t)n * 2654435761u);
+        if (put(key, LETTERS, &n, 4) != 0) break;
     }
     IS(room, n);
     IS(room, count());
     IS(-3, put("seventeen", 9, "x", 1));
-    uint32_t first = 0;
-    IS(0, put(&first, 4, "new", 3));
-    IS(0, del(&first, 4));
-    IS(-4, del(&first, 4));
+    IS(0, put(first, LETTERS, "new", 3));
+    IS(0, del(first, LETTERS));
+    IS(-4, del(first, LETTERS));
     IS(0, put("seventeen", 9, "x", 1));
-    IS(-3, put(&first, 4, "x", 1));
+    IS(-3, put(first, LETTERS, "x", 1));
     IS(0, start());
     IS(room, count());
     for (n = 1; n < room; n++) {
-        uint32_t key = (uint32_t)n * 2654435761u, value = 0;
-        if (get(&key, 4, &value, 4) != 4 || value != n) break;
+        uint32_t value = 0;
+        letters(key, (uint32_t)n * 2654435761u);
+        if (get(key, LETTERS, &value, 4) != 4 || value != n) break;
     }
     IS(room, n);
     IS(1, get("seventeen", 9, b, 1));
@@ -139,9 +141,6 @@ static void arguments(void) {
     IS(0, put("a", 1, v, 0));
     IS(0, get("a", 1, b, 0));
     IS(2, count());
-    IS(0, put("\0\0", 2, "zero", 4));
-    IS(-4, get("\0", 1, b, 4));
-    IS(3, count());
 }
 
 static void power(void) {
@@ -248,6 +247,40 @@ static void plant(size_t page, const void *key, uint8_t key_len) {
     at[2] = key_len;
     memcpy(at + 16, key, key_len);
     for (size_t i = 0; i < 128; i++) at[128 + i] = (uint8_t)~at[i];
+}
+
+/* Put takes keys of the bytes 0x21 to 0x7E alone; get, delete and next take any, so that old ones are found and removed. */
+static void printed_keys(void) {
+    uint8_t b[16], key[3] = "a?b", keep[4 * FLOATSTORE_BLOCK];
+    lend(4);
+    IS(0, start());
+    for (int x = 0; x < 256; x++)
+        for (size_t at = 0; at < 3; at++) {
+            memcpy(key, "a?b", 3);
+            key[at] = (uint8_t)x;
+            memcpy(keep, chip, sizeof keep);
+            int64_t answer = put(key, 3, b, 0);
+            IS(x < 0x21 || x > 0x7E ? -1 : 0, answer);
+            if (answer) IS(0, memcmp(keep, chip, sizeof keep));
+            IS(answer ? -4 : 0, del(key, 3));
+        }
+    IS(-1, put("\n", 1, keep, 97)); /* 1 comes before 2 */
+    IS(-1, put("0123456789abcde\n", 16, b, 0));
+    lend(4);
+    plant(0, "a\nb", 3);
+    plant(1, " ", 1);
+    IS(0, start());
+    IS(2, count());
+    IS(0, get("a\nb", 3, b, 0));
+    IS(-1, put("a\nb", 3, "new", 3));
+    follows("", 0, " ", 1);
+    follows(" ", 1, "a\nb", 3);
+    IS(0, del("a\nb", 3));
+    IS(-4, get("a\nb", 3, b, 16));
+    IS(1, count());
+    IS(0, start());
+    IS(0, del(" ", 1));
+    IS(0, count());
 }
 
 static void next_key(void) {
@@ -358,6 +391,7 @@ static void walk_with_changes(void) {
 
 int main(void) {
     seeing();
+    printed_keys();
     next_key();
     walk(4);
     walk(5);

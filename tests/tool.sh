@@ -39,6 +39,17 @@ fails() {
   [ "$before" = "$(cat ./*.img 2>/dev/null | sha256sum; ls -A)" ] || complain "floatstore $*: changed a file"
 }
 : >out; : >said
+# plant IMAGE PAGE HEX: the record of a key, with an empty value, as put made it of any bytes before request 9
+plant() {
+  python3 - "$@" <<'END'
+import sys
+key = bytes.fromhex(sys.argv[3])
+page = (bytes([1, 1, len(key), 0]) + bytes(12) + key).ljust(128, b"\0")
+with open(sys.argv[1], "r+b") as image:
+    image.seek(256 * int(sys.argv[2]))
+    image.write(page + bytes(255 - x for x in page))
+END
+}
 
 # ---- every command
 has 'floatstore map IMAGE' help
@@ -47,7 +58,7 @@ says '' format a.img 4
 says 0 count a.img
 says '' put a.img depth '1500 m'
 says '1500 m' get a.img depth
-says '' put a.img hex:00ff hex:
+plant a.img 1 00ff
 says '' get a.img hex:00FF
 says '' put a.img hex:6465707468 2000
 says 2000 get a.img depth
@@ -129,6 +140,9 @@ fails 'cannot write beside it' format no/such/folder.img 4
 fails 'refused (1)' put a.img '' value
 fails 'refused (1)' get a.img 0123456789abcdefg
 fails 'refused (1)' delete a.img hex:
+fails 'refused (1)' put a.img hex:00ff hex:
+fails 'refused (1)' put a.img 'two words' value
+fails 'refused (1)' put a.img $'line\n' value
 fails 'refused (2)' put a.img key "$(printf '%97s' v)"
 fails 'refused (4)' get a.img nothing
 fails 'refused (4): the key has no value' delete a.img nothing

@@ -1,5 +1,6 @@
 /* How long the calls take on a chip that is memory, full of keys. */
 #define _POSIX_C_SOURCE 200809L
+#include "letters.h"
 #include <floatstore.h>
 #include <stdio.h>
 #include <stdlib.h>
@@ -13,7 +14,7 @@ static double seconds(void) {
 }
 
 static void measure(size_t blocks) {
-    static uint8_t noise[FLOATSTORE_NOISE], value[FLOATSTORE_MAX_VALUE];
+    static uint8_t noise[FLOATSTORE_NOISE], value[FLOATSTORE_MAX_VALUE], key[LETTERS];
     size_t len = FLOATSTORE_CHIP_LEN(blocks), words = FLOATSTORE_WORK_LEN(blocks), room = FLOATSTORE_ROOM(blocks), times = 400000, starts = 50;
     uint8_t *chip = malloc(len);
     uint32_t *work = malloc(words * sizeof *work);
@@ -23,18 +24,18 @@ static void measure(size_t blocks) {
     memset(chip, 0xFF, len);
     wrong |= floatstore_start(chip, len, work, words, &fuse);
     for (size_t i = 0; i < room; i++) {
-        uint32_t key = (uint32_t)i * 2654435761u;
-        wrong |= floatstore_put(chip, len, work, words, &fuse, noise, (uint8_t *)&key, sizeof key, value, sizeof value);
+        letters(key, (uint32_t)i * 2654435761u);
+        wrong |= floatstore_put(chip, len, work, words, &fuse, noise, key, sizeof key, value, sizeof value);
     }
     double t0 = seconds();
     for (size_t i = 0; i < times; i++) {
-        uint32_t key = (uint32_t)(i % room) * 2654435761u;
-        wrong |= floatstore_put(chip, len, work, words, &fuse, noise, (uint8_t *)&key, sizeof key, value, sizeof value);
+        letters(key, (uint32_t)(i % room) * 2654435761u);
+        wrong |= floatstore_put(chip, len, work, words, &fuse, noise, key, sizeof key, value, sizeof value);
     }
     double t1 = seconds();
     for (size_t i = 0; i < times; i++) {
-        uint32_t key = (uint32_t)(i % room) * 2654435761u;
-        wrong |= floatstore_get(chip, len, work, words, &fuse, (uint8_t *)&key, sizeof key, value, sizeof value) - FLOATSTORE_MAX_VALUE;
+        letters(key, (uint32_t)(i % room) * 2654435761u);
+        wrong |= floatstore_get(chip, len, work, words, &fuse, key, sizeof key, value, sizeof value) - FLOATSTORE_MAX_VALUE;
     }
     double t2 = seconds();
     for (size_t i = 0; i < starts; i++) wrong |= floatstore_start(chip, len, work, words, &fuse);

@@ -1,5 +1,6 @@
 /* How long a start takes, by what stands on the chip: nothing, a tenth of it records, records everywhere. 512 blocks; the best of several rounds, in microseconds. */
 #define _POSIX_C_SOURCE 199309L
+#include "letters.h"
 #include <floatstore.h>
 #include <inttypes.h>
 #include <stdio.h>
@@ -24,10 +25,9 @@ static int64_t start(void) { return floatstore_start(chip, sizeof chip, work, FL
 
 /* n puts over 1,000 keys, with values of 32 bytes */
 static int fill(unsigned n) {
-    uint8_t key[4], value[32] = {0};
+    uint8_t key[LETTERS], value[32] = {0};
     for (unsigned i = 0; i < n; i++) {
-        unsigned k = i % 1000;
-        memcpy(key, &k, sizeof key);
+        letters(key, i % 1000);
         memcpy(value, &i, sizeof i);
         if (floatstore_put(chip, sizeof chip, work, FLOATSTORE_WORK_LEN(BLOCKS), &fuse, noise, key, sizeof key, value, sizeof value) < 0) return 0;
     }

@@ -25,7 +25,7 @@ static const char help_text[] =
     "  floatstore map IMAGE [--svg FILE]   a picture of the ring, a character for each page; or as SVG, to a file\n"
     "  floatstore help                     this page\n"
     "\n"
-    "A KEY (1 to 16 bytes) or a VALUE (0 to 96 bytes) is text, or hex digits after 'hex:', as hex:00ff. Bytes that aren't printable are shown so too.\n"
+    "A KEY (1 to 16 bytes; to put, printable ones) or a VALUE (0 to 96 bytes) is text, or hex digits after 'hex:', as hex:00ff. Bytes that aren't printable are shown so too.\n"
     "get --raw writes the value's bytes as they are.\n"
     "put and delete take --cut N: the power fails at their N-th erase or page write, and --noise SEED: ones, zeros, or a number.\n"
     "A write that is cut leaves new | noise, an erase the noise itself.\n"
@@ -46,7 +46,7 @@ static void die(const char *form, ...) {
 static const char *refusal_words(int64_t number) {
     static const char *const words[] = {
         "",
-        "a key has 1 to 16 bytes",
+        "a key has 1 to 16 bytes; put takes bytes 0x21 to 0x7E alone",
         "a value has at most 96 bytes",
         "no room: the store has as many keys as it can hold",
         "the key has no value",

@@ -87,7 +87,7 @@ struct change {
 
 /* Keys of one byte and its repetitions: many are beginnings of others. */
 static size_t key_of(size_t i, uint8_t *key) {
-    memset(key, (int)(i / 16), 16);
+    memset(key, 'A' + (int)(i / 16), 16);
     return 1 + i % 16;
 }
 

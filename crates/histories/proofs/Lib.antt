@@ -1,2 +1,3 @@
 pub mod Histories
 pub mod Walks
+pub mod Printed

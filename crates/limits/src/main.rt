@@ -149,12 +149,29 @@ fn delete_keys(chip: &mut [u8], work: &mut [u32]) {
     tell(b"count", count(chip, work));
 }
 
-// Keys of 0, 16 and 17 bytes.
+// Puts of keys whose bytes lie on both sides of 0x21 and 0x7E: those outside are refused.
+fn put_odd_keys(chip: &mut [u8], work: &mut [u32]) {
+    say(b"put, bytes 0x21 and 0x7E", put(chip, work, b"!~", b"v"));
+    say(b"put, byte 0x20", put(chip, work, b"a b", b"v"));
+    say(b"put, byte 0x7F", put(chip, work, b"a\x7f", b"v"));
+}
+
+// Get and delete take such keys; there is none.
+fn use_odd_keys(chip: &mut [u8], work: &mut [u32]) {
+    let mut buffer = [0u8; 96];
+    tell(b"get, byte 0x7F", get(chip, work, b"a\x7f", &mut buffer));
+    say(b"delete, byte 0x7F", delete(chip, work, b"a\x7f"));
+    tell(b"count", count(chip, work));
+}
+
+// Keys of 0, 16 and 17 bytes; keys that can't be printed.
 fn keys(chip: &mut [u8], work: &mut [u32]) {
     say(b"start", start(chip, work));
     put_keys(chip, work);
     get_keys(chip, work);
     delete_keys(chip, work);
+    put_odd_keys(chip, work);
+    use_odd_keys(chip, work);
 }
 
 // Puts of values of 0, 96 and 97 bytes.
@@ -405,11 +422,11 @@ fn first_refusal(chip: &mut [u8], work: &mut [u32]) {
     late_refusals(chip, work);
 }
 
-// How many of the keys from 0 on, below end, are put one after the other before one is refused.
+// How many of the keys from 0x40 on, below 0x40 + end, are put one after the other before one is refused.
 fn fill(chip: &mut [u8], work: &mut [u32], end: u8) -> u8 {
     let mut i: u8 = 0;
     while i < end {
-        let key = [i];
+        let key = [i | 0x40];
         if !is_done(put(chip, work, &key, b"v")) {
             return i;
         }
@@ -440,8 +457,8 @@ fn again(chip: &mut [u8], work: &mut [u32], first: &[u8], seventeenth: &[u8]) {
 
 // Room for 8 (B - 2) keys, and for no more.
 fn room(chip: &mut [u8], work: &mut [u32]) {
-    let first = [0u8];
-    let seventeenth = [16u8];
+    let first = [0x40u8];
+    let seventeenth = [0x50u8];
     say(b"start", start(chip, work));
     number(b"keys that go in, of 16: ", fill(chip, work, 16) as u64);
     full(chip, work, &first, &seventeenth);

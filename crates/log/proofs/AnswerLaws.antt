@@ -67,7 +67,7 @@ module _ {A : Type 0} where
 pub put-no-9 : (l : Lent) (k : Key) (v : List ℕ) (m : Map (List ℕ)) → putAnswer l k v m ≢ refused 9
 put-no-9 l k v m =
     lent-never l 9 _ (λ q. omega arith) (λ q. omega arith) (λ q. omega arith)
-    (refuse-never 1 9 _ _ (λ q. omega arith) (refuse-never 2 9 _ _ (λ q. omega arith) (refuse-never 3 9 _ _ (λ q. omega arith) (done-never _ 9))))
+    (refuse-never 1 9 _ _ (λ q. omega arith) (refuse-never 1 9 _ _ (λ q. omega arith) (refuse-never 2 9 _ _ (λ q. omega arith) (refuse-never 3 9 _ _ (λ q. omega arith) (done-never _ 9)))))
 
 -- of a delete
 pub delete-no-9 : (l : Lent) (k : Key) (m : Map (List ℕ)) → deleteAnswer l k m ≢ refused 9
@@ -86,8 +86,8 @@ known-room b (some u) w m e = refl
 pub put-known : (l : Lent) (k : Key) (v w : List ℕ) (m : Map (List ℕ)) → lookup k m ≡ some w → putAnswer l k v m ≢ refused 3
 put-known l k v w m e =
     lent-never l 3 _ (λ q. omega arith) (λ q. omega arith) (λ q. omega arith)
-    (refuse-never 1 3 _ _ (λ q. omega arith)
-    (refuse-never 2 3 _ _ (λ q. omega arith) (λ q. done-never _ 3 (sym (refuse-not 3 _ _ (known-room (blocks l) (lookup k m) w m e)) ∙ q))))
+    (refuse-never 1 3 _ _ (λ q. omega arith) (refuse-never 1 3 _ _ (λ q. omega arith)
+    (refuse-never 2 3 _ _ (λ q. omega arith) (λ q. done-never _ 3 (sym (refuse-not 3 _ _ (known-room (blocks l) (lookup k m) w m e)) ∙ q)))))
 
 -- and one is refused for room only where its key has no value yet and the map already has 8 (B - 2) keys
 pub put-full : (l : Lent) (k : Key) (v : List ℕ) (m : Map (List ℕ)) → putAnswer l k v m ≡ refused 3 → (lookup k m ≡ none) × (room (blocks l) ≤ length m)
@@ -98,7 +98,8 @@ put-full l k v m e = go (lookup k m) refl held
         refuse-held 3 _ _
         (refuse-other 2 3 _ _ (λ q. omega arith)
         (refuse-other 1 3 _ _ (λ q. omega arith)
-        (refuse-other 8 3 _ _ (λ q. omega arith) (refuse-other 7 3 _ _ (λ q. omega arith) (refuse-other 5 3 _ _ (λ q. omega arith) e)))))
+        (refuse-other 1 3 _ _ (λ q. omega arith)
+        (refuse-other 8 3 _ _ (λ q. omega arith) (refuse-other 7 3 _ _ (λ q. omega arith) (refuse-other 5 3 _ _ (λ q. omega arith) e))))))
 
     go : (o : Option (List ℕ)) → lookup k m ≡ o → (missing o && leb (room (blocks l)) (length m)) ≡ true → (lookup k m ≡ none) × (room (blocks l) ≤ length m)
     go none h t = (h, leb-true (room (blocks l)) (length m) t)
@@ -114,7 +115,7 @@ count-alter k o m s =
 pub put-fits : (l : Lent) (k : Key) (v : List ℕ) (m n : Map (List ℕ)) → Sorted m → length m ≤ room (blocks l) → putAnswer l k v m ≡ done n → length n ≤ room (blocks l)
 put-fits l k v m n s few e =
     let d : refuse 3 (missing (lookup k m) && leb (room (blocks l)) (length m)) (done (alter k (some v) m)) ≡ done n =
-    refuse-done 2 _ _ n (refuse-done 1 _ _ n (lent-done l _ n e) .1) .1 in
+    refuse-done 2 _ _ n (refuse-done 1 _ _ n (refuse-done 1 _ _ n (lent-done l _ n e) .1) .1) .1 in
     let p : ((missing (lookup k m) && leb (room (blocks l)) (length m)) ≡ false) × (done (alter k (some v) m) ≡ done n) = refuse-done 3 _ _ n d in
     go (lookup k m) refl (p .0) (done-is _ n (p .1))
   where

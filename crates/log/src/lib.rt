@@ -1,7 +1,8 @@
 // The log: which map a chip stands for, and what each step of the store does to it, whole and cut. This crate is theory: its definitions are in
-// specs/, in the order Key, Map, Log, Ring, Answers, Call, Wear; its laws in proofs/. It has no code but these numbers, which every crate above needs.
+// specs/, in the order Key, Map, Log, Ring, Answers, Call, Wear; its laws in proofs/. It has no code but two numbers and a test of keys.
 ghost use mathlib.Core.Path.{_≡_};
 ghost use Prim.Native.Nat.{_≤_};
+ghost use Rattle.log.specs.Answers.{printable, printed};
 ghost use Rattle.log.specs.Ring.{room, mostBlocks};
 
 // The most blocks that a chip of a store has (request 5 of document 02).
@@ -13,4 +14,24 @@ pub fn room(b: usize) -> usize
     ensures { λ r. ⌜ r ≡ room b ⌝ }
 {
     if b < 2 { 0 } else { 8 * (b - 2) }
+}
+
+// Whether a byte can be printed: 0x21 to 0x7E.
+fn is_printable(x: u8) -> bool
+    ensures { λ r. ⌜ r ≡ printable x ⌝ }
+{
+    (0x21 <= x) & (x <= 0x7E)
+}
+
+// Whether all bytes of a key can be printed: a put takes no others (request 9 of document 02).
+pub fn is_printed(key: &[u8]) -> bool
+    ensures { λ r. ⌜ r ≡ printed (now (key .entry)) ⌝ }
+{
+    let mut ok = true;
+    let mut i = 0;
+    while i < key.len() {
+        ok = ok & is_printable(key[i]);
+        i += 1;
+    }
+    ok
 }

@@ -58,12 +58,12 @@ module _ (c : List ℕ) (f : ℕ) (w : List ℕ) where
 
 -- ---- GET
 module _ (c : List ℕ) (f : ℕ) (w key b b′ : List ℕ) where
-  get-due : getAnswer (lentOf c f w) key b (mapIn c) ≡ due (lentNumber (lentOf c f w) (keyNumber key [])) (gotten b (lookup key (mapIn c)))
+  get-due : getAnswer (lentOf c f w) key b (mapIn c) ≡ due (lentNumber (lentOf c f w) (keyNumber key 0)) (gotten b (lookup key (mapIn c)))
   get-due =
-      ap (lent (lentOf c f w)) (keyed-only key (gotten b (lookup key (mapIn c)))) ∙ lent-due (lentOf c f w) (keyNumber key []) (gotten b (lookup key (mapIn c)))
+      ap (lent (lentOf c f w)) (keyed-only key (gotten b (lookup key (mapIn c)))) ∙ lent-due (lentOf c f w) (keyNumber key 0) (gotten b (lookup key (mapIn c)))
 
-  module _ (k : ℕ) (t : Tested c f w (keyNumber key []) k) (h : Kept c f w) where
-    get-number : lentNumber (lentOf c f w) (keyNumber key []) ≡ k
+  module _ (k : ℕ) (t : Tested c f w (keyNumber key 0) k) (h : Kept c f w) where
+    get-number : lentNumber (lentOf c f w) (keyNumber key 0) ≡ k
     get-number = sym (t .due h)
 
     pub get-refused : 0 < k → Gets b b (getAnswer (lentOf c f w) key b (mapIn c)) (Refused k)

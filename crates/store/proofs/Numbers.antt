@@ -1,7 +1,7 @@
 -- The refusals that need no search, as numbers: what the code tests, and what the answers of document 01 say. Assumes nothing.
-use mathlib.Core.Path.{_≡_, refl, sym, _∙_}
+use mathlib.Core.Path.{_≡_, refl, sym, _∙_, subst}
 use mathlib.Core.Logic.{_≢_}
-use mathlib.Core.List.{List, []}
+use mathlib.Core.List.{List}
 use mathlib.Core.Bool.{Bool, true, false, not, _&&_, _||_}
 use Prim.Native.Nat.{ℕ, _+_, _*_, _/_, _%_, _≤_, _<_}
 use native.Mathlib.Omega.{arith}
@@ -10,11 +10,11 @@ use lib.ListN.{length, getD}
 use borrow.Author.Tests.{eq-eqb, ne-eqb, le-leb, lt-leb, leb-true, eqb-true}
 use Rattle.page.proofs.All.{and-left, and-right}
 use Rattle.log.specs.Ring.{chipOf, mostBlocks}
-use Rattle.log.specs.Answers.{Lent, refuse, lent, keyed}
+use Rattle.log.specs.Answers.{Lent, printed, refuse, lent, keyed}
 use Rattle.log.specs.Answers.{Answer as Says}
 use Rattle.log.proofs.RingLaws.{next-le}
-use Rattle.store.specs.Ends.{blocksOf, Sized, Checked, Keyed}
-use Rattle.store.specs.Calls.{mark, lentOf, Holds, number, lentNumber, keyNumber, due, Tested}
+use Rattle.store.specs.Ends.{blocksOf, Sized, Checked}
+use Rattle.store.specs.Calls.{mark, lentOf, Holds, number, lentNumber, keyNumber, putNumber, due, Tested}
 use Rattle.log.specs.Answers.{sizesTest}
 
 -- ---- the lengths
@@ -122,6 +122,10 @@ module _ (c : List ℕ) (f : ℕ) (w : List ℕ) (n : ℕ) where
       go true false false e = e
       go true false true e = absurd (omega arith)
 
+-- the same by another name of the number
+pub tested-of : (c : List ℕ) (f : ℕ) (w : List ℕ) (i j r : ℕ) → i ≡ j → Tested c f w i r → Tested c f w j r
+tested-of c f w i j r e t = subst (λ (n : ℕ). Tested c f w n r) e t
+
 -- what an area that holds says of its words
 pub holds-head : (c w : List ℕ) → Holds c w → getD w 1 0 < blocksOf c
 holds-head c w h = h .ready .ring .inside
@@ -130,22 +134,41 @@ pub holds-next : (c w : List ℕ) → Holds c w → getD w 2 0 ≤ 15
 holds-next c w h = omega (arith, h .ready .here, next-le (chipOf c) (getD w 1 0) 15)
 
 -- ---- KEY AND VALUE
+module _ (k : List ℕ) (n : ℕ) where
+  by-length : (a b : Bool) → eqb (length k) 0 ≡ a → leb 17 (length k) ≡ b → keyNumber k n ≡ number 1 (a || b) n
+  by-length a b p q = rw (p, q)
+
+  pub key-none : length k ≡ 0 → 1 ≡ keyNumber k n
+  key-none p = sym (by-length true _ (eq-eqb (length k) 0 p) refl)
+
+  pub key-long : 0 < length k → 16 < length k → 1 ≡ keyNumber k n
+  key-long p q = sym (by-length false true (ne-eqb (length k) 0 (λ e. omega arith)) (le-leb 17 (length k) (omega arith)))
+
+  pub key-fits : 0 < length k → length k ≤ 16 → n ≡ keyNumber k n
+  key-fits p q = sym (by-length false false (ne-eqb (length k) 0 (λ e. omega arith)) (lt-leb 17 (length k) (omega arith)))
+
 module _ (k v : List ℕ) where
-  by-lengths : (a b t : Bool) → eqb (length k) 0 ≡ a → leb 17 (length k) ≡ b → leb 97 (length v) ≡ t → keyNumber k v ≡ number 1 (a || b) (number 2 t 0)
-  by-lengths a b t p q u = rw (p, q, u)
+  -- the key's length is refused
+  pub put-length : (r : ℕ) → 0 < r → r ≡ keyNumber k 0 → r ≡ putNumber k v
+  put-length r l e = go (eqb (length k) 0 || leb 17 (length k)) _ e
+    where
+      go : (x : Bool) (n : ℕ) → r ≡ number 1 x 0 → r ≡ number 1 x n
+      go true n e = e
+      go false n e = absurd (omega arith)
 
-  pub key-none : length k ≡ 0 → 1 ≡ keyNumber k v
-  key-none p = sym (by-lengths true _ _ (eq-eqb (length k) 0 p) refl refl)
+  -- it is not
+  module _ (p : 0 < length k) (q : length k ≤ 16) where
+    by-tests-of-put : (x t : Bool) → printed k ≡ x → leb 97 (length v) ≡ t → number 1 (not x) (number 2 t 0) ≡ putNumber k v
+    by-tests-of-put x t e d = rw (sym e, sym d) (key-fits k _ p q)
 
-  pub key-long : 0 < length k → 16 < length k → 1 ≡ keyNumber k v
-  key-long p q = sym (by-lengths false true _ (ne-eqb (length k) 0 (λ e. omega arith)) (le-leb 17 (length k) (omega arith)) refl)
+    pub put-unprinted : printed k ≡ false → 1 ≡ putNumber k v
+    put-unprinted e = by-tests-of-put false _ e refl
 
-  pub value-long : 0 < length k → length k ≤ 16 → 96 < length v → 2 ≡ keyNumber k v
-  value-long p q l = sym (by-lengths false false true (ne-eqb (length k) 0 (λ e. omega arith)) (lt-leb 17 (length k) (omega arith)) (le-leb 97 (length v) (omega arith)))
+    pub value-long : printed k ≡ true → 96 < length v → 2 ≡ putNumber k v
+    value-long e l = by-tests-of-put true true e (le-leb 97 (length v) (omega arith))
 
-  pub key-good : Keyed k v → 0 ≡ keyNumber k v
-  key-good p =
-      sym (by-lengths false false false (ne-eqb (length k) 0 (λ e. omega (arith, p .some-key))) (lt-leb 17 (length k) (omega (arith, p .short-key))) (lt-leb 97 (length v) (omega (arith, p .short-value))))
+    pub put-good : printed k ≡ true → length v ≤ 96 → 0 ≡ putNumber k v
+    put-good e l = by-tests-of-put true false e (lt-leb 97 (length v) (omega arith))
 
 -- ---- THE ANSWERS OF DOCUMENT 01, by the number that is due
 module _ {A : Type 0} where
@@ -159,19 +182,20 @@ module _ {A : Type 0} where
       go true false false = refl
       go true false true = refl
 
-  pub keyed-due : (k v : List ℕ) (a : Says A) → keyed k (refuse 2 (leb 97 (length v)) a) ≡ due (keyNumber k v) a
+  pub keyed-due : (k v : List ℕ) (a : Says A) → keyed k (refuse 1 (not (printed k)) (refuse 2 (leb 97 (length v)) a)) ≡ due (putNumber k v) a
   unfolding refuse
-  keyed-due k v a = go (eqb (length k) 0 || leb 17 (length k)) (leb 97 (length v))
+  keyed-due k v a = go (eqb (length k) 0 || leb 17 (length k)) (printed k) (leb 97 (length v))
     where
-      go : (x y : Bool) → refuse 1 x (refuse 2 y a) ≡ due (number 1 x (number 2 y 0)) a
-      go true y = refl
-      go false true = refl
-      go false false = refl
+      go : (x y z : Bool) → refuse 1 x (refuse 1 (not y) (refuse 2 z a)) ≡ due (number 1 x (number 1 (not y) (number 2 z 0))) a
+      go true y z = refl
+      go false false z = refl
+      go false true true = refl
+      go false true false = refl
 
-  pub keyed-only : (k : List ℕ) (a : Says A) → keyed k a ≡ due (keyNumber k []) a
+  pub keyed-only : (k : List ℕ) (a : Says A) → keyed k a ≡ due (keyNumber k 0) a
   unfolding refuse
   keyed-only k a = go (eqb (length k) 0 || leb 17 (length k))
     where
-      go : (x : Bool) → refuse 1 x a ≡ due (number 1 x (number 2 false 0)) a
+      go : (x : Bool) → refuse 1 x a ≡ due (number 1 x 0) a
       go true = refl
       go false = refl

@@ -3,7 +3,7 @@ use mathlib.Core.Path.{_≡_, refl, sym, ap, _∙_, subst}
 use mathlib.Core.Logic.{inl, inr}
 use mathlib.Core.List.{List, []}
 use mathlib.Core.Option.{none, some}
-use mathlib.Core.Bool.{Bool, true, false, _&&_}
+use mathlib.Core.Bool.{Bool, true, false, not, _&&_}
 use Prim.Native.Nat.{ℕ, suc, _+_, _-_, _*_, _/_, _≤_, _<_}
 use native.Mathlib.Omega.{arith}
 use lib.Dec.{leb}
@@ -16,13 +16,13 @@ use Rattle.record.specs.Record.{Rec, recordOf}
 use Rattle.log.specs.Map.{Map, lookup, alter}
 use Rattle.log.specs.Ring.{chipOf, head, Ring, mapOf, room, Ready}
 use Rattle.log.specs.Call.{resting, Trace, After}
-use Rattle.log.specs.Answers.{missing, refuse, lent, keyed, refused, done, putAnswer, deleteAnswer}
+use Rattle.log.specs.Answers.{missing, printed, refuse, lent, keyed, refused, done, putAnswer, deleteAnswer}
 use Rattle.log.specs.Answers.{Answer as Says}
 use Rattle.log.proofs.RingLaws.{ring-head}
 use Rattle.log.proofs.CallLaws.{call-map}
 use Rattle.log.proofs.CallCost.{Rest, call-short}
 use Rattle.store.specs.Ends.{blocksOf, Checked}
-use Rattle.store.specs.Calls.{mapIn, mark, lentOf, Kept, Store, number, lentNumber, keyNumber, due, Tested, Came, Changes, Ended}
+use Rattle.store.specs.Calls.{mapIn, mark, lentOf, Kept, Store, number, lentNumber, keyNumber, putNumber, due, Tested, Came, Changes, Ended}
 use Rattle.store.specs.Changes.{denialIn, Alters, Runs}
 use Rattle.store.specs.declared.Answer.{Answer}
 use Rattle.store.specs.declared.Answer.the-variants.{Done, Refused}
@@ -237,19 +237,19 @@ denial-due n false a = refl
 module _ (c : List ℕ) (f : ℕ) (w key : List ℕ) where
   -- the answers of document 01, by the numbers that are due
   put-due : (value : List ℕ) → putAnswer (lentOf c f w) key value (mapIn c)
-      ≡ due (lentNumber (lentOf c f w) (keyNumber key value)) (due (denialIn false key (mapIn c) (blocksOf c)) (done (alter key (some value) (mapIn c))))
+      ≡ due (lentNumber (lentOf c f w) (putNumber key value)) (due (denialIn false key (mapIn c) (blocksOf c)) (done (alter key (some value) (mapIn c))))
   put-due value =
-      ap (λ (a : Says (Map (List ℕ))). lent (lentOf c f w) (keyed key (refuse 2 (leb 97 (length value)) a)))
+      ap (λ (a : Says (Map (List ℕ))). lent (lentOf c f w) (keyed key (refuse 1 (not (printed key)) (refuse 2 (leb 97 (length value)) a))))
       (denial-due 2 (missing (lookup key (mapIn c)) && leb (room (blocksOf c)) (length (mapIn c))) (done (alter key (some value) (mapIn c))))
       ∙ ap (lent (lentOf c f w)) (keyed-due key value (due (denialIn false key (mapIn c) (blocksOf c)) (done (alter key (some value) (mapIn c)))))
-      ∙ lent-due (lentOf c f w) (keyNumber key value) (due (denialIn false key (mapIn c) (blocksOf c)) (done (alter key (some value) (mapIn c))))
+      ∙ lent-due (lentOf c f w) (putNumber key value) (due (denialIn false key (mapIn c) (blocksOf c)) (done (alter key (some value) (mapIn c))))
 
   delete-due : deleteAnswer (lentOf c f w) key (mapIn c)
-      ≡ due (lentNumber (lentOf c f w) (keyNumber key [])) (due (denialIn true key (mapIn c) (blocksOf c)) (done (alter key none (mapIn c))))
+      ≡ due (lentNumber (lentOf c f w) (keyNumber key 0)) (due (denialIn true key (mapIn c) (blocksOf c)) (done (alter key none (mapIn c))))
   delete-due =
       ap (λ (a : Says (Map (List ℕ))). lent (lentOf c f w) (keyed key a)) (denial-due 3 (missing (lookup key (mapIn c))) (done (alter key none (mapIn c))))
       ∙ ap (lent (lentOf c f w)) (keyed-only key (due (denialIn true key (mapIn c) (blocksOf c)) (done (alter key none (mapIn c)))))
-      ∙ lent-due (lentOf c f w) (keyNumber key []) (due (denialIn true key (mapIn c) (blocksOf c)) (done (alter key none (mapIn c))))
+      ∙ lent-due (lentOf c f w) (keyNumber key 0) (due (denialIn true key (mapIn c) (blocksOf c)) (done (alter key none (mapIn c))))
 
   module _ (noise : List ℕ) (n : ℕ) where
     -- refused before any search
@@ -265,18 +265,17 @@ module _ (c : List ℕ) (f : ℕ) (w key : List ℕ) where
               (record { ends = (refl, refl, refl, refl, refl) });
         }
 
-    pub put-refused : (value : List ℕ) → 0 < n → Tested c f w (keyNumber key value) n
+    pub put-refused : (value : List ℕ) → 0 < n → Tested c f w (putNumber key value) n
         → Ended (recordOf false key value) noise c f w c f w (putAnswer (lentOf c f w) key value (mapIn c)) (Refused n)
-    put-refused value l t = refused-first (recordOf false key value) _ _ (keyNumber key value) (put-due value) l t
+    put-refused value l t = refused-first (recordOf false key value) _ _ (putNumber key value) (put-due value) l t
 
-    pub delete-refused : (v : List ℕ) → v ≡ [] → 0 < n → Tested c f w (keyNumber key v) n
+    pub delete-refused : 0 < n → Tested c f w (keyNumber key 0) n
         → Ended (recordOf true key []) noise c f w c f w (deleteAnswer (lentOf c f w) key (mapIn c)) (Refused n)
-    delete-refused v e l t =
-        refused-first (recordOf true key []) _ _ (keyNumber key []) delete-due l (subst (λ (u : List ℕ). Tested c f w (keyNumber key u) n) e t)
+    delete-refused l t = refused-first (recordOf true key []) _ _ (keyNumber key 0) delete-due l t
 
     -- the body ran
     module _ (c′ : List ℕ) (f′ : ℕ) (w′ : List ℕ) (r : Answer) (z : n ≡ 0) where
-      pub put-ran : (value : List ℕ) → Tested c f w (keyNumber key value) n → Runs false key value noise c f w c′ f′ w′ r
+      pub put-ran : (value : List ℕ) → Tested c f w (putNumber key value) n → Runs false key value noise c f w c′ f′ w′ r
           → Ended (recordOf false key value) noise c f w c′ f′ w′ (putAnswer (lentOf c f w) key value (mapIn c)) r
       put-ran value t a =
           record {
@@ -288,15 +287,14 @@ module _ (c : List ℕ) (f : ℕ) (w key : List ℕ) where
                 (a .right kept (t .lit z) (t .marked z));
           }
 
-      pub delete-ran : (v : List ℕ) → v ≡ [] → Tested c f w (keyNumber key v) n → Runs true key v noise c f w c′ f′ w′ r
+      pub delete-ran : (v : List ℕ) → Tested c f w (keyNumber key 0) n → Runs true key v noise c f w c′ f′ w′ r
           → Ended (recordOf true key []) noise c f w c′ f′ w′ (deleteAnswer (lentOf c f w) key (mapIn c)) r
-      delete-ran v e t a =
-          let t₀ : Tested c f w (keyNumber key []) n = subst (λ (u : List ℕ). Tested c f w (keyNumber key u) n) e t in
+      delete-ran v t a =
           record {
             did = a .did;
             refused = a .refused;
             right = λ kept.
                 subst (λ (s : Says (Map (List ℕ))). Changes (recordOf true key []) c f w c′ f′ w′ (a .did .ops) s r)
-                (sym (delete-due ∙ ap (λ (j : ℕ). due j (due (denialIn true key (mapIn c) (blocksOf c)) (done (alter key none (mapIn c))))) (sym (t₀ .due kept) ∙ z)))
+                (sym (delete-due ∙ ap (λ (j : ℕ). due j (due (denialIn true key (mapIn c) (blocksOf c)) (done (alter key none (mapIn c))))) (sym (t .due kept) ∙ z)))
                 (a .right kept (t .lit z) (t .marked z));
           }

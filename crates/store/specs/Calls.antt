@@ -11,7 +11,7 @@ use Rattle.chip.specs.Play.{Op, erases, writes, Did}
 use Rattle.record.specs.Record.{Rec, recordOf}
 use Rattle.log.specs.Map.{Map}
 use Rattle.log.specs.Ring.{chipOf, head, Ring, mapOf, room, Ready}
-use Rattle.log.specs.Answers.{Lent, sizesTest, refused, done, putAnswer, getAnswer, deleteAnswer, countAnswer, startAnswer, formatAnswer}
+use Rattle.log.specs.Answers.{Lent, sizesTest, printed, refused, done, putAnswer, getAnswer, deleteAnswer, countAnswer, startAnswer, formatAnswer}
 use Rattle.log.specs.Answers.{Answer as Says}
 use Rattle.log.specs.Call.{resting, Trace, After}
 use Rattle.store.specs.Ends.{blocksOf, Sized, Checked, RefusedKept}
@@ -56,8 +56,11 @@ number n false k = k
 abbrev pub lentNumber : Lent → ℕ → ℕ
 lentNumber l k = number 5 (not (sizesTest (l .chip) (l .work))) (number 7 (l .dark) (number 8 (not (l .ready)) k))
 
-abbrev pub keyNumber : List ℕ → List ℕ → ℕ
-keyNumber key value = number 1 (eqb (length key) 0 || leb 17 (length key)) (number 2 (leb 97 (length value)) 0)
+abbrev pub keyNumber : List ℕ → ℕ → ℕ
+keyNumber key k = number 1 (eqb (length key) 0 || leb 17 (length key)) k
+
+abbrev pub putNumber : List ℕ → List ℕ → ℕ
+putNumber key value = keyNumber key (number 1 (not (printed key)) (number 2 (leb 97 (length value)) 0))
 
 -- an answer by the number that is due: 0 lets the call go on
 abbrev pub due : {A : Type 0} → ℕ → Says A → Says A

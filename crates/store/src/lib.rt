@@ -21,7 +21,7 @@ ghost use Rattle.index.specs.Answers.{Within};
 ghost use Rattle.opening.specs.Ends.{Sane};
 ghost use Rattle.store.specs.Scan.{sealedBelow, blankFrom, Replays};
 ghost use Rattle.store.specs.Ends.{blocksOf, Sized, Checked, Keyed, ChangeWithin, Undenied, ChangeKept, Got};
-ghost use Rattle.store.specs.Calls.{keyNumber, Tested, Gets, PutEnds, DeleteEnds, GetEnds, CountEnds, StartEnds, FormatEnds};
+ghost use Rattle.store.specs.Calls.{keyNumber, putNumber, Tested, Gets, PutEnds, DeleteEnds, GetEnds, CountEnds, StartEnds, FormatEnds};
 ghost use Rattle.store.specs.Changes.{isMissing, denial, Appends, Alters, Runs};
 ghost use Rattle.store.specs.Reads.{Counted, Fetches, Readies, Clears};
 
@@ -258,19 +258,30 @@ fn run_change(
     }
 }
 
-// The refusals of put and delete that need no search: 5, 7, 8, 1 and 2; 0 if none is due.
-fn refusal(chip: &[u8], work: &[u32], key: &[u8], value: &[u8], fuse: u64) -> u32
-    ensures tested { λ r. ⌜ Tested (now (chip .entry)) fuse (now (work .entry)) (keyNumber (now (key .entry)) (now (value .entry))) r ⌝ }
-    ensures keyed { λ r. ⌜ (r ≡ 0 → Keyed (now (key .entry)) (now (value .entry))) ⌝ }
+// Refusal 1 of any key: its length is 0 or above 16; 0 if it isn't due.
+fn key_refusal(key: &[u8]) -> u32
+    ensures right { λ r. ⌜ r ≡ keyNumber (now (key .entry)) 0 ⌝ }
+    ensures fit { λ r. ⌜ (r ≡ 0 → (1 ≤ length (now (key .entry))) × (length (now (key .entry)) ≤ 16)) ⌝ }
 {
-    let k = unready(chip, work, fuse);
-    if 0 < k {
-        return k;
-    }
     if key.len() == 0 {
         return 1;
     }
     if 16 < key.len() {
+        return 1;
+    }
+    0
+}
+
+// Refusals 1 and 2 of what is to be put: the key can't be printed, the value is too long; 0 if none is due.
+fn put_refusal(key: &[u8], value: &[u8]) -> u32
+    ensures right { λ r. ⌜ r ≡ putNumber (now (key .entry)) (now (value .entry)) ⌝ }
+    ensures keyed { λ r. ⌜ (r ≡ 0 → Keyed (now (key .entry)) (now (value .entry))) ⌝ }
+{
+    let k = key_refusal(key);
+    if 0 < k {
+        return k;
+    }
+    if !log::is_printed(key) {
         return 1;
     }
     if 96 < value.len() {
@@ -279,7 +290,19 @@ fn refusal(chip: &[u8], work: &[u32], key: &[u8], value: &[u8], fuse: u64) -> u3
     0
 }
 
-// The key has the value from now on, whether or not it had one.
+// What is lent is tested first: its refusals 5, 7 and 8; and if none is due, n, which is that of the arguments.
+fn refusal(chip: &[u8], work: &[u32], fuse: u64, n: u32) -> u32
+    ensures tested { λ r. ⌜ Tested (now (chip .entry)) fuse (now (work .entry)) n r ⌝ }
+    ensures last { λ r. ⌜ (r ≡ 0 → n ≡ 0) ⌝ }
+{
+    let k = unready(chip, work, fuse);
+    if 0 < k {
+        return k;
+    }
+    n
+}
+
+// The key has the value from now on, whether or not it had one. Its bytes must be such as can be printed.
 pub fn put(
     chip: &mut [u8],
     work: &mut [u32],
@@ -290,14 +313,14 @@ pub fn put(
 ) -> Answer
     ensures { λ r. ⌜ PutEnds (now (noise .entry)) (now (chip .entry)) (now (fuse .entry)) (now (work .entry)) (now (key .entry)) (now (value .entry)) (now (chip .exit)) (now (fuse .exit)) (now (work .exit)) r ⌝ }
 {
-    let k = refusal(chip, work, key, value, *fuse);
+    let k = refusal(chip, work, *fuse, put_refusal(key, value));
     if 0 < k {
         return Answer::Refused(k);
     }
     run_change(chip, work, false, key, value, fuse, noise)
 }
 
-// The key has no value any more.
+// The key has no value any more. Any key is taken, so that old ones can be removed.
 pub fn delete(
     chip: &mut [u8],
     work: &mut [u32],
@@ -307,11 +330,11 @@ pub fn delete(
 ) -> Answer
     ensures { λ r. ⌜ DeleteEnds (now (noise .entry)) (now (chip .entry)) (now (fuse .entry)) (now (work .entry)) (now (key .entry)) (now (chip .exit)) (now (fuse .exit)) (now (work .exit)) r ⌝ }
 {
-    let none = &key[..0];
-    let k = refusal(chip, work, key, none, *fuse);
+    let k = refusal(chip, work, *fuse, key_refusal(key));
     if 0 < k {
         return Answer::Refused(k);
     }
+    let none = &key[..0];
     run_change(chip, work, true, key, none, fuse, noise)
 }
 
@@ -356,8 +379,7 @@ pub fn get(chip: &[u8], work: &[u32], fuse: &u64, key: &[u8], buffer: &mut [u8])
     ensures got { λ r. ⌜ Got (now (buffer .entry)) (now (buffer .exit)) r ⌝ }
     ensures right { λ r. ⌜ (GetEnds (now (chip .entry)) (now (fuse .entry)) (now (work .entry)) (now (key .entry)) (now (buffer .entry)) (now (buffer .exit)) r) ⌝ }
 {
-    let none = &key[..0];
-    let k = refusal(chip, work, key, none, *fuse);
+    let k = refusal(chip, work, *fuse, key_refusal(key));
     if 0 < k {
         return Answer::Refused(k);
     }

@@ -1,6 +1,7 @@
 -- `store::get` meets its contract. Assumes nothing.
 use mathlib.Core.Path.{refl}
 use native.Mathlib.Omega.{arith}
+use Rattle.store.proofs.Numbers.{tested-of}
 use Rattle.store.proofs.Gets.{get-refused, get-fetched}
 use borrow.Author.Needs.{needs}
 use Rattle.store.proofs.get.Statement.{statement}
@@ -9,7 +10,8 @@ use Rattle.store.proofs.get.Tie as tie
 returns : tie.Need-returns
 returns c = let a = c .before .before .before .before .before .before .before .before .args in (
   record { ends = refl },
-  λ h. get-refused (a .chip .now) (a .fuse .now) (a .work .now) (a .key .now) (a .buffer .now) (a .buffer .now) _ (c .before .refusal .ensures .0) h (omega arith),
+  λ h. get-refused (a .chip .now) (a .fuse .now) (a .work .now) (a .key .now) (a .buffer .now) (a .buffer .now) _
+      (tested-of _ _ _ _ _ _ (c .before .before .key-refusal .ensures .0) (c .before .refusal .ensures .0)) h (omega arith),
 )
 
 shared-slice-read-word : tie.Need-shared-slice-read-word
@@ -27,7 +29,8 @@ fetch-requires c κs = let k = c .before .before .before .before .before .refusa
 returns-2 : tie.Need-returns-2
 returns-2 c = let a = c .before .before .before .before .before .before .before .before .before .before .before .before .before .before .before .args in (
   c .before .before .fetch .ensures .0,
-  λ h. get-fetched (a .chip .now) (a .fuse .now) (a .work .now) (a .key .now) (a .buffer .now) _ _ (c .before .before .before .before .before .before .before .before .refusal .ensures .0) h (c .before .before .before .before .before .word .result) _ (omega arith)
+  λ h. get-fetched (a .chip .now) (a .fuse .now) (a .work .now) (a .key .now) (a .buffer .now) _ _
+      (tested-of _ _ _ _ _ _ (c .before .before .before .before .before .before .before .before .before .key-refusal .ensures .0) (c .before .before .before .before .before .before .before .before .refusal .ensures .0)) h (c .before .before .before .before .before .word .result) _ (omega arith)
       (c .before .before .before .before .before .word .ensures) (c .before .before .fetch .ensures .1),
 )
 
@@ -35,7 +38,7 @@ pub get-spec : {M : Type 1} → statement M
 get-spec =
     tie.close
     (tie.spec
-    (λ c. search needs)
+    (λ c κs. search needs)
     (λ c κs. search needs)
     returns
     shared-slice-read-word
