@@ -15,8 +15,7 @@
  * library. A pointer with a length of 0 must still not be null. Nothing else is asked of a caller: any lengths, any bytes on
  * the chip, any bytes in the work area are answered, with a refusal where they make no sense.
  *
- * WHAT A CALL ANSWERS. At least 0: it is done (get: the value's length; next: the key's; count: the number
- * of keys; the others: 0).
+ * WHAT A CALL ANSWERS. At least 0: it is done (get: the value's length; next: the key's; count: the number of keys; the others: 0).
  * Below 0: refused, minus a number of enum floatstore_refusal; of several that apply, the first of the order 5, 7, 8, 1, 2, 4, 6, 3.
  * A call refused with 1 to 6 has changed nothing.
  *

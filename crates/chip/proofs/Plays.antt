@@ -23,11 +23,6 @@ module _ (noise : List ℕ) where
   play-then (a ∷ rs) os f c =
       play-then rs os (f - 1) _ ∙ ap (λ (g : ℕ). play noise g os (play noise (f - 1) rs (done (power f) noise a c))) (less f (length rs))
 
-  -- a list and one more
-  pub play-more : (os : List Op) (o : Op) (f : ℕ) (c : List ℕ) → play noise f (os ++ (o ∷ [])) c ≡ done (power (f - length os)) noise o (play noise f os c)
-  unfolding play
-  play-more os o f c = play-then os (o ∷ []) f c
-
   done-gone : (o : Op) (c : List ℕ) → done (power 0) noise o c ≡ c
   unfolding done erased written power
   done-gone (erase b) c = refl

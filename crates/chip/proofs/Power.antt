@@ -82,6 +82,3 @@ module _ (noise c c′ : List ℕ) (f f′ : ℕ) (k : f′ ≡ f - 1) where
   module _ (b : ℕ) (e : c′ ≡ erased (power f) noise b c) where
     pub erase-stayed : 0 < f′ → c′ ≡ erased stays noise b c
     erase-stayed l = e ∙ ap (λ (t : Power). erased t noise b c) (power-stays f (omega arith))
-
-    pub erase-went : 0 < f → f′ ≡ 0 → c′ ≡ erased goes noise b c
-    erase-went l z = e ∙ ap (λ (t : Power). erased t noise b c) (power-goes f (omega arith))

@@ -27,7 +27,7 @@ use Rattle.store.specs.declared.Answer.{Answer}
 use Rattle.store.specs.declared.Answer.the-variants.{Done, Refused}
 use Rattle.store.proofs.Gets.{map-rows}
 use Rattle.store.proofs.Numbers.{sizes-hold}
-use Rattle.histories.specs.History.{Phase, off, on, started, failed, counted, History, begin, dark, start, put, delete, get, count, next, ToldBy, Tells}
+use Rattle.histories.specs.History.{Phase, off, on, started, failed, counted, History, Fresh, begin, found, dark, start, put, delete, get, count, next, ToldBy, Tells}
 
 module _ (B : ℕ) (big : 4 ≤ B) where
   -- the area is as start and the calls since left it
@@ -35,12 +35,12 @@ module _ (B : ℕ) (big : 4 ≤ B) where
   Tended off c = Unit {0}
   Tended (on noise f w) c = Kept c f w
 
-  -- WHAT HOLDS AFTER EVERY HISTORY
-  pub record Lives (s : Phase) (c : List ℕ) (n q : ℕ) (ops : List Op) : Type 0 where
+  -- WHAT HOLDS AFTER EVERY HISTORY, and of wear where F holds: where it began with a blank chip
+  pub record Lives (F : Type 0) (s : Phase) (c : List ℕ) (n q : ℕ) (ops : List Op) : Type 0 where
     pub size : length c ≡ 4096 * B
     pub store : Store c
     pub tended : Tended s c
-    pub worn : Worn B n q ops (chipOf c)
+    pub worn : F → Worn B n q ops (chipOf c)
 
   blocks-are : (c : List ℕ) → length c ≡ 4096 * B → blocksOf c ≡ B
   blocks-are c e = omega arith
@@ -66,7 +66,7 @@ module _ (B : ℕ) (big : 4 ≤ B) where
   goes-dark f f′ l e = rw (le-leb 1 f l, eq-eqb f′ 0 e)
 
   -- ---- A PUT OR A DELETE
-  module _ (x : Rec) (noise c : List ℕ) (f : ℕ) (w c′ : List ℕ) (f′ : ℕ) (w′ : List ℕ) (n q : ℕ) (ops : List Op) where
+  module _ (F : Type 0) (x : Rec) (noise c : List ℕ) (f : ℕ) (w c′ : List ℕ) (f′ : ℕ) (w′ : List ℕ) (n q : ℕ) (ops : List Op) where
     few-table : Store c → length c ≡ 4096 * B → length (table B (chipOf c)) ≤ room B
     few-table s e =
         let b : blocksOf c ≡ B = blocks-are c e in
@@ -74,20 +74,20 @@ module _ (B : ℕ) (big : 4 ≤ B) where
         omega (arith, k, map-rows B (chipOf c))
 
     -- the steps of a call wear the chip
-    step-worn : (b : Bool) (l : List Op) (m : Map (List ℕ)) → Lives (on noise f w) c n q ops → Came b x c c′ l m → Worn B (suc n) (q + missed b) (ops ++ l) (chipOf c′)
-    step-worn b l m y k =
+    step-worn : (b : Bool) (l : List Op) (m : Map (List ℕ)) → Lives F (on noise f w) c n q ops → F → Came b x c c′ l m → Worn B (suc n) (q + missed b) (ops ++ l) (chipOf c′)
+    step-worn b l m y i k =
         worn-call B big n q ops x (chipOf c) (chipOf c′) l b (few-table (y .store) (y .size))
-        (subst (λ (i : ℕ). Trace i x (resting (chipOf c) (head i (chipOf c))) (chipOf c′) l b) (blocks-are c (y .size)) (k .trace)) (y .worn)
+        (subst (λ (i : ℕ). Trace i x (resting (chipOf c) (head i (chipOf c))) (chipOf c′) l b) (blocks-are c (y .size)) (k .trace)) (y .worn i)
 
     -- 0 < f where document 01 does not refuse with 7
     pub step-lives : (s : Says (Map (List ℕ))) (r : Answer) (e : Ended x noise c f w c′ f′ w′ s r) → ((m : Map (List ℕ)) → s ≡ done m → 0 < f)
-        → Lives (on noise f w) c n q ops → Lives (on noise f′ w′) c′ (n + counted f f′ r) (q + failed f f′) (ops ++ e .did .ops)
+        → Lives F (on noise f w) c n q ops → Lives F (on noise f′ w′) c′ (n + counted f f′ r) (q + failed f f′) (ops ++ e .did .ops)
     step-lives s r e lit y = go s refl (e .right (y .tended) .ends)
       where
         sized : length c′ ≡ 4096 * B
         sized = did-length (e .did) ∙ y .size
 
-        go : (t : Says (Map (List ℕ))) → s ≡ t → ChangesBy x c f w c′ f′ w′ (e .did .ops) t r → Lives (on noise f′ w′) c′ (n + counted f f′ r) (q + failed f f′) (ops ++ e .did .ops)
+        go : (t : Says (Map (List ℕ))) → s ≡ t → ChangesBy x c f w c′ f′ w′ (e .did .ops) t r → Lives F (on noise f′ w′) c′ (n + counted f f′ r) (q + failed f f′) (ops ++ e .did .ops)
         go (refused k) d (er, ec, ew, ef, eo) =
             let z : failed f f′ ≡ 0 = ap (failed f) ef ∙ none-failed f in
             let a : n + counted f f′ r ≡ n = omega (arith, ap (counted f f′) er, z) in
@@ -97,10 +97,10 @@ module _ (B : ℕ) (big : 4 ≤ B) where
               size = sized;
               store = subst Store (sym ec) (y .store);
               tended = subst (λ (g : ℕ). Kept c′ g w′) (sym ef) (subst (Kept c′ f) (sym ew) (subst (λ (l : List ℕ). Kept l f w) (sym ec) (y .tended)));
-              worn =
+              worn = λ i.
                   subst (λ (l : List ℕ). Worn B (n + counted f f′ r) (q + failed f f′) (ops ++ e .did .ops) (chipOf l)) (sym ec)
                   (subst (λ (i : ℕ). Worn B i (q + failed f f′) (ops ++ e .did .ops) (chipOf c)) (sym a)
-                  (subst (λ (i : ℕ). Worn B n i (ops ++ e .did .ops) (chipOf c)) (sym b) (subst (λ (l : List Op). Worn B n q l (chipOf c)) (sym o) (y .worn))));
+                  (subst (λ (i : ℕ). Worn B n i (ops ++ e .did .ops) (chipOf c)) (sym b) (subst (λ (l : List Op). Worn B n q l (chipOf c)) (sym o) (y .worn i))));
             }
         go (done m) d (inl (er, on-still, marked, holds, k)) =
             let z : failed f f′ ≡ 0 = stays-lit f f′ on-still in
@@ -110,9 +110,9 @@ module _ (B : ℕ) (big : 4 ≤ B) where
               size = sized;
               store = k .store;
               tended = record { holds = λ _ _ _. holds };
-              worn =
+              worn = λ i.
                   subst (λ (i : ℕ). Worn B i (q + failed f f′) (ops ++ e .did .ops) (chipOf c′)) a
-                  (subst (λ (i : ℕ). Worn B (suc n) i (ops ++ e .did .ops) (chipOf c′)) b (step-worn true (e .did .ops) m y k));
+                  (subst (λ (i : ℕ). Worn B (suc n) i (ops ++ e .did .ops) (chipOf c′)) b (step-worn true (e .did .ops) m y i k));
             }
         go (done m) d (inr (er, gone, marked, k)) =
             let z : failed f f′ ≡ 1 = goes-dark f f′ (lit m d) gone in
@@ -122,9 +122,9 @@ module _ (B : ℕ) (big : 4 ≤ B) where
               size = sized;
               store = k .store;
               tended = record { holds = λ _ l _. absurd (omega arith) };
-              worn =
+              worn = λ i.
                   subst (λ (i : ℕ). Worn B i (q + failed f f′) (ops ++ e .did .ops) (chipOf c′)) a
-                  (subst (λ (i : ℕ). Worn B (suc n) i (ops ++ e .did .ops) (chipOf c′)) b (step-worn false (e .did .ops) m y k));
+                  (subst (λ (i : ℕ). Worn B (suc n) i (ops ++ e .did .ops) (chipOf c′)) b (step-worn false (e .did .ops) m y i k));
             }
 
     -- and what the documents say of it
@@ -150,7 +150,7 @@ module _ (B : ℕ) (big : 4 ≤ B) where
   kept-by c f w w′ (done m) r noise (er, marked, holds) = subst (λ (z : Answer). Tended (started noise f w′ z) c) (sym er) (record { holds = λ _ _ _. holds })
 
   -- ---- EVERY HISTORY
-  pub lives : {s : Phase} {c : List ℕ} {n q : ℕ} {ops : List Op} → History B s c n q ops → Lives s c n q ops
+  pub lives : {s : Phase} {c : List ℕ} {n q : ℕ} {ops : List Op} (h : History B s c n q ops) → Lives (Fresh h) s c n q ops
   lives (begin c z f) =
       let b : B ≡ blocksOf c = sym (blocks-are c z) in
       record {
@@ -161,18 +161,19 @@ module _ (B : ℕ) (big : 4 ≤ B) where
               few = subst (λ (i : ℕ). length (mapOf i (chipOf c)) ≤ room i) b (omega (arith, ap length (blank-map B big (chipOf c) f)));
             };
         tended = tt;
-        worn = worn-blank B big (chipOf c) f;
+        worn = λ _. worn-blank B big (chipOf c) f;
       }
+  lives (found c z s) = record { size = z; store = s; tended = tt; worn = λ i. absurd i }
   lives (dark {s} {c} {n} {q} {ops} h) =
-      let y : Lives s c n q ops = lives h in
-      record { size = y .size; store = y .store; tended = tt; worn = worn-dark B big n q ops (chipOf c) (y .worn) }
+      let y : Lives (Fresh h) s c n q ops = lives h in
+      record { size = y .size; store = y .store; tended = tt; worn = λ i. worn-dark B big n q ops (chipOf c) (y .worn i) }
   lives (start {s} {c} {n} {q} {ops} noise f w w′ r e h) =
-      let y : Lives s c n q ops = lives h in
+      let y : Lives (Fresh h) s c n q ops = lives h in
       record { size = y .size; store = y .store; tended = kept-by c f w w′ (startAnswer (lentToStart c f w) (chipOf c)) r noise (e .ends); worn = y .worn }
   lives (put {noise} {f} {w} {c} {n} {q} {ops} key value c′ f′ w′ r e h) =
-      step-lives (recordOf false key value) noise c f w c′ f′ w′ n q ops (putAnswer (lentOf c f w) key value (mapIn c)) r e (λ m d. lit-by f _ _ _ m d) (lives h)
+      step-lives (Fresh h) (recordOf false key value) noise c f w c′ f′ w′ n q ops (putAnswer (lentOf c f w) key value (mapIn c)) r e (λ m d. lit-by f _ _ _ m d) (lives h)
   lives (delete {noise} {f} {w} {c} {n} {q} {ops} key c′ f′ w′ r e h) =
-      step-lives (recordOf true key []) noise c f w c′ f′ w′ n q ops (deleteAnswer (lentOf c f w) key (mapIn c)) r e (λ m d. lit-by f _ _ _ m d) (lives h)
+      step-lives (Fresh h) (recordOf true key []) noise c f w c′ f′ w′ n q ops (deleteAnswer (lentOf c f w) key (mapIn c)) r e (λ m d. lit-by f _ _ _ m d) (lives h)
   lives (get key b b′ r e h) = lives h
   lives (count r e h) = lives h
   lives (next key b b′ r e h) = lives h
@@ -180,12 +181,13 @@ module _ (B : ℕ) (big : 4 ≤ B) where
   -- THEOREM RIGHT, AND CRASH-PROOF: after every history the chip's map is one that the documents allow, and every answer was document 01's
   pub right : {s : Phase} {c : List ℕ} {n q : ℕ} {ops : List Op} (h : History B s c n q ops) → Tells h (mapIn c)
   right (begin c z f) = subst (λ (i : ℕ). mapOf i (chipOf c) ≡ []) (sym (blocks-are c z)) (blank-map B big (chipOf c) f)
+  right (found c z s) = refl
   right (dark h) = right h
   right (start noise f w w′ r e h) = right h
   right (put {noise} {f} {w} {c} {n} {q} {ops} key value c′ f′ w′ r e h) =
-      (mapIn c, right h, step-told (recordOf false key value) noise c f w c′ f′ w′ n q ops (putAnswer (lentOf c f w) key value (mapIn c)) r e (lives h .tended))
+      (mapIn c, right h, step-told (Fresh h) (recordOf false key value) noise c f w c′ f′ w′ n q ops (putAnswer (lentOf c f w) key value (mapIn c)) r e (lives h .tended))
   right (delete {noise} {f} {w} {c} {n} {q} {ops} key c′ f′ w′ r e h) =
-      (mapIn c, right h, step-told (recordOf true key []) noise c f w c′ f′ w′ n q ops (deleteAnswer (lentOf c f w) key (mapIn c)) r e (lives h .tended))
+      (mapIn c, right h, step-told (Fresh h) (recordOf true key []) noise c f w c′ f′ w′ n q ops (deleteAnswer (lentOf c f w) key (mapIn c)) r e (lives h .tended))
   right (get key b b′ r e h) = (right h, e (lives h .tended))
   right (count r e h) = (right h, e (lives h .tended))
   right (next key b b′ r e h) = (right h, e (lives h .tended))
@@ -195,7 +197,7 @@ module _ (B : ℕ) (big : 4 ≤ B) where
     pub start-succeeds : (f : ℕ) (w : List ℕ) → Sized c w → 0 < f → startAnswer (lentToStart c f w) (chipOf c) ≡ done (mapIn c)
     unfolding refuse
     start-succeeds f w z l =
-        let y : Lives s c n q ops = lives h in
+        let y : Lives (Fresh h) s c n q ops = lives h in
         let g : ℕ = y .store .ring .0 in
         let r : ringTest (blocksOf c) (chipOf c) (head (blocksOf c) (chipOf c)) ≡ true =
         ring-test (blocksOf c) (chipOf c) (head (blocksOf c) (chipOf c))
@@ -206,21 +208,21 @@ module _ (B : ℕ) (big : 4 ≤ B) where
     pub start-done : (f : ℕ) (w w′ : List ℕ) (r : Answer) → Sized c w → 0 < f → StartEnds c f w w′ r → (r ≡ Done 0) × (mark w′ ≡ 1) × Holds c w′
     start-done f w w′ r z l e = subst (λ (t : Says (Map (List ℕ))). StartsBy c w w′ t r) (start-succeeds f w z l) (e .ends)
 
-    -- ---- THEOREM WEAR
+    -- ---- THEOREM WEAR, of a history that began with a blank chip
+    module _ (fresh : Fresh h) where
+      -- even: the erases of any two blocks differ by at most 1 + q
+      pub wear-even : (i j : ℕ) → i < B → j < B → erasesOf i ops ≤ erasesOf j ops + (1 + q)
+      wear-even i j a b = worn-even B big n q ops (chipOf c) (lives h .worn fresh) i j a b
 
-    -- even: the erases of any two blocks differ by at most 1 + q
-    pub wear-even : (i j : ℕ) → i < B → j < B → erasesOf i ops ≤ erasesOf j ops + (1 + q)
-    wear-even i j a b = worn-even B big n q ops (chipOf c) (lives h .worn) i j a b
+      -- few: all erases together are at most n / 7 + q
+      pub wear-few : erases ops ≤ n / 7 + q
+      wear-few = omega (arith, worn-few B big n q ops (chipOf c) (lives h .worn fresh))
 
-    -- few: all erases together are at most n / 7 + q
-    pub wear-few : erases ops ≤ n / 7 + q
-    wear-few = omega (arith, worn-few B big n q ops (chipOf c) (lives h .worn))
+      -- document 03 asks for n / 4 + 2 q + B
+      pub wear-asked : erases ops ≤ n / 4 + 2 * q + B
+      wear-asked = omega (arith, wear-few)
 
-    -- document 03 asks for n / 4 + 2 q + B
-    pub wear-asked : erases ops ≤ n / 4 + 2 * q + B
-    wear-asked = omega (arith, wear-few)
-
-  -- ---- THEOREM NUMBERS: 9 is never answered; so not before 3,276,800,000 pages have been written
+  -- ---- THEOREM NUMBERS: 9 is never answered, however many pages have been written
   never-9 : (s : Says (Map (List ℕ))) (f′ : ℕ) (r : Answer) (m m′ : Map (List ℕ)) → s ≢ refused 9 → ToldBy s f′ r m m′ → r ≢ Refused 9
   never-9 (refused k) f′ r m m′ d (er, em) e = d (ap (λ (i : ℕ). refused i) (number-is k (sym er ∙ e)))
     where
@@ -239,10 +241,10 @@ module _ (B : ℕ) (big : 4 ≤ B) where
       → PutEnds noise c f w key value c′ f′ w′ r → History B (on noise f w) c n q ops → r ≢ Refused 9
   put-never-9 {noise} {f} {w} {c} {n} {q} {ops} key value c′ f′ w′ r e h =
       never-9 (putAnswer (lentOf c f w) key value (mapIn c)) f′ r (mapIn c) (mapIn c′) (put-no-9 (lentOf c f w) key value (mapIn c))
-      (step-told (recordOf false key value) noise c f w c′ f′ w′ n q ops (putAnswer (lentOf c f w) key value (mapIn c)) r e (lives h .tended))
+      (step-told (Fresh h) (recordOf false key value) noise c f w c′ f′ w′ n q ops (putAnswer (lentOf c f w) key value (mapIn c)) r e (lives h .tended))
 
   pub delete-never-9 : {noise : List ℕ} {f : ℕ} {w c : List ℕ} {n q : ℕ} {ops : List Op} (key c′ : List ℕ) (f′ : ℕ) (w′ : List ℕ) (r : Answer)
       → DeleteEnds noise c f w key c′ f′ w′ r → History B (on noise f w) c n q ops → r ≢ Refused 9
   delete-never-9 {noise} {f} {w} {c} {n} {q} {ops} key c′ f′ w′ r e h =
       never-9 (deleteAnswer (lentOf c f w) key (mapIn c)) f′ r (mapIn c) (mapIn c′) (delete-no-9 (lentOf c f w) key (mapIn c))
-      (step-told (recordOf true key []) noise c f w c′ f′ w′ n q ops (deleteAnswer (lentOf c f w) key (mapIn c)) r e (lives h .tended))
+      (step-told (Fresh h) (recordOf true key []) noise c f w c′ f′ w′ n q ops (deleteAnswer (lentOf c f w) key (mapIn c)) r e (lives h .tended))

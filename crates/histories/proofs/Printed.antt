@@ -1,4 +1,4 @@
--- AFTER EVERY HISTORY EACH KEY CAN BE PRINTED (document 02, request 9): put takes no others, and nothing else makes a key. Assumes nothing.
+-- AFTER EVERY HISTORY THAT BEGAN WITH A BLANK CHIP EACH KEY CAN BE PRINTED (document 02, request 9): put takes no others, and nothing else makes a key. Assumes nothing.
 use mathlib.Core.Path.{_≡_, refl, sym, _∙_, subst}
 use mathlib.Core.Logic.{inl, inr}
 use mathlib.Core.List.{List, [], _∷_}
@@ -17,7 +17,7 @@ use Rattle.store.specs.Calls.{mapIn, lentOf}
 use Rattle.store.specs.declared.Answer.{Answer}
 use Rattle.keys.specs.Walk.{Has}
 use Rattle.histories.specs.History as history
-use Rattle.histories.specs.History.{Phase, History, begin, dark, start, delete, get, count, next, ToldBy, Tells}
+use Rattle.histories.specs.History.{Phase, History, Fresh, begin, found, dark, start, delete, get, count, next, ToldBy, Tells}
 use Rattle.histories.proofs.Histories.{right}
 
 -- each key of the map can be printed
@@ -78,20 +78,21 @@ told-printed (done n) f′ r m m′ h g (inr (er, gone, inl em)) = subst Printed
 told-printed (done n) f′ r m m′ h g (inr (er, gone, inr em)) = subst Printed (sym em) (g n refl)
 
 -- ---- EVERY HISTORY
-tells-printed : {B : ℕ} {s : Phase} {c : List ℕ} {n q : ℕ} {ops : List Op} (h : History B s c n q ops) (m : Map (List ℕ)) → Tells h m → Printed m
-tells-printed (begin c z f) m e = subst Printed (sym e) tt
-tells-printed (dark h) m t = tells-printed h m t
-tells-printed (start noise f w w′ r e h) m t = tells-printed h m t
-tells-printed (history.put {noise} {f} {w} {c} key value c′ f′ w′ r e h) m (k, t, d) =
-    let p : Printed k = tells-printed h k t in
+tells-printed : {B : ℕ} {s : Phase} {c : List ℕ} {n q : ℕ} {ops : List Op} (h : History B s c n q ops) → Fresh h → (m : Map (List ℕ)) → Tells h m → Printed m
+tells-printed (begin c z f) y m e = subst Printed (sym e) tt
+tells-printed (found c z s) y m e = absurd y
+tells-printed (dark h) y m t = tells-printed h y m t
+tells-printed (start noise f w w′ r e h) y m t = tells-printed h y m t
+tells-printed (history.put {noise} {f} {w} {c} key value c′ f′ w′ r e h) y m (k, t, d) =
+    let p : Printed k = tells-printed h y k t in
     told-printed (putAnswer (lentOf c f w) key value k) f′ r k m p (λ n z. put-printed (lentOf c f w) key k n p value z) d
-tells-printed (delete {noise} {f} {w} {c} key c′ f′ w′ r e h) m (k, t, d) =
-    let p : Printed k = tells-printed h k t in
+tells-printed (delete {noise} {f} {w} {c} key c′ f′ w′ r e h) y m (k, t, d) =
+    let p : Printed k = tells-printed h y k t in
     told-printed (deleteAnswer (lentOf c f w) key k) f′ r k m p (λ n z. delete-printed (lentOf c f w) key k n p z) d
-tells-printed (get key b b′ r e h) m (t, d) = tells-printed h m t
-tells-printed (count r e h) m (t, d) = tells-printed h m t
-tells-printed (next key b b′ r e h) m (t, d) = tells-printed h m t
+tells-printed (get key b b′ r e h) y m (t, d) = tells-printed h y m t
+tells-printed (count r e h) y m (t, d) = tells-printed h y m t
+tells-printed (next key b b′ r e h) y m (t, d) = tells-printed h y m t
 
 -- THEOREM: EACH KEY THAT HAS A VALUE CAN BE PRINTED
-pub keys-printed : (B : ℕ) → 4 ≤ B → {s : Phase} {c : List ℕ} {n q : ℕ} {ops : List Op} → History B s c n q ops → (k : Key) → Has k (mapIn c) → printed k ≡ true
-keys-printed B big {s} {c} h k v = printed-has (mapIn c) (tells-printed h (mapIn c) (right B big h)) k v
+pub keys-printed : (B : ℕ) → 4 ≤ B → {s : Phase} {c : List ℕ} {n q : ℕ} {ops : List Op} (h : History B s c n q ops) → Fresh h → (k : Key) → Has k (mapIn c) → printed k ≡ true
+keys-printed B big {s} {c} h y k v = printed-has (mapIn c) (tells-printed h y (mapIn c) (right B big h)) k v

@@ -6,8 +6,7 @@ use Prim.Native.Nat.{ℕ, _*_, _≤_, _<_}
 use native.Mathlib.Omega.{arith}
 use lib.ListN.{length}
 use Rattle.log.specs.Key.{Key, _≺_}
-use Rattle.log.specs.Map.{Map, Sorted}
-use Rattle.index.proofs.Rows.{keys}
+use Rattle.log.specs.Map.{Map, Sorted, keys}
 use Rattle.store.specs.Ends.{Sized}
 use Rattle.store.specs.Calls.{mapIn, mark, lentOf}
 use Rattle.store.specs.declared.Answer.{Answer}

@@ -9,7 +9,7 @@ use lib.Seq.{ext-getD}
 use Rattle.record.specs.Record.{recAt, keyAt}
 use Rattle.record.proofs.Reading.{says-key}
 use Rattle.log.specs.Key.{Key, _≺_}
-use Rattle.log.specs.Map.{Map, alter}
+use Rattle.log.specs.Map.{Map, alter, keys}
 use Rattle.log.specs.Log.{Placed, pageOf, oldest, run, bytes, pages}
 use Rattle.log.specs.Ring.{chipOf, head, tableAt, table, mapOf}
 use Rattle.log.proofs.Window.{page-lt}
@@ -27,11 +27,6 @@ use Rattle.index.proofs.Search.{nth-key, length-keys}
 -- where a list has no row
 abbrev pub none-there : Key × Placed
 none-there = ([], (0, []))
-
--- the keys of a map, in their order
-unfoldable pub keys : {A : Type 0} → Map A → List Key
-keys [] = []
-keys (p ∷ m) = p .0 ∷ keys m
 
 keys-length : {A : Type 0} (m : Map A) → length (keys m) ≡ length m
 unfolding keys

@@ -14,7 +14,7 @@ use borrow.Author.Tests.{le-leb, lt-leb}
 use borrow.Rule.Slice.PartMut.{midOf}
 use Rattle.record.specs.Record.{keyAt}
 use Rattle.log.specs.Key.{Key, _≺_, tri<, tri≡, tri>, tri}
-use Rattle.log.specs.Map.{Map}
+use Rattle.log.specs.Map.{Map, keys}
 use Rattle.log.specs.Answers.{refuse, lent, gotten}
 use Rattle.log.specs.Answers.{Answer as Says}
 use Rattle.log.proofs.KeyLaws.{≺-irrefl, ≺-asym, byTri-<, byTri-≡, byTri->}
@@ -23,7 +23,7 @@ use Rattle.index.specs.Answers.{FindsBy, Finds}
 use Rattle.index.specs.declared.Found.{Found}
 use Rattle.index.specs.declared.Found.the-variants.{At, Missing}
 use Rattle.index.proofs.Search.{nth-key, length-keys}
-use Rattle.index.proofs.Rows.{keys, table-keys}
+use Rattle.index.proofs.Rows.{table-keys}
 use Rattle.store.specs.Ends.{blocksOf, Checked}
 use Rattle.store.specs.Calls.{mapIn, lentOf, Kept, number, lentNumber, due, Tested, Gets}
 use Rattle.store.specs.declared.Answer.{Answer}

@@ -7,10 +7,9 @@ use Prim.Native.Nat.{ℕ, _+_, _≤_}
 use native.Mathlib.Nat.{zero-add}
 use native.Mathlib.Omega.{arith}
 use Rattle.log.specs.Key.{Key, _≺_, tri<, tri≡, tri>, tri, key≟}
-use Rattle.log.specs.Map.{Map, lookup, Above, Sorted}
+use Rattle.log.specs.Map.{Map, lookup, Above, Sorted, keys}
 use Rattle.log.proofs.KeyLaws.{≺-irrefl, ≺-trans, ≺-ne, ≺-ne′}
 use Rattle.log.proofs.MapLaws.{some≢none, some-inj, lookup-here, lookup-there}
-use Rattle.index.proofs.Rows.{keys}
 use Rattle.keys.specs.Next.{nextKey}
 use Rattle.keys.specs.Walk.{Walk, end, step, Has, Each, times, Rise, Had}
 use Rattle.keys.proofs.After.{next-here, next-there}

@@ -122,17 +122,14 @@ module _ (B : ℕ) (big : 4 ≤ B) where
 
         -- the potential rises by at most B
         pub lost-paid : potential B c′ ≤ potential B c + B
-        lost-paid = go lost-next
+        lost-paid = go (most lost-next)
           where
-            go : (next c′ h ≡ next c h) ⊎ (next c′ h ≡ suc (next c h)) → potential B c′ ≤ potential B c + B
-            go (inl e) =
-                omega (
-                  arith,
-                  potential-at B big c h r,
-                  potential-at B big c′ h lost-ring,
-                  phi-call (B - 2) (next c h) (ages (h + B) (table B c)) (next c′ h) (ages (h + B) (table B c′)) (omega arith) (omega (arith, ap (ages (h + B)) lost-table)),
-                )
-            go (inr e) =
+            most : (next c′ h ≡ next c h) ⊎ (next c′ h ≡ suc (next c h)) → next c′ h ≤ suc (next c h)
+            most (inl e) = omega arith
+            most (inr e) = omega arith
+
+            go : next c′ h ≤ suc (next c h) → potential B c′ ≤ potential B c + B
+            go e =
                 omega (
                   arith,
                   potential-at B big c h r,

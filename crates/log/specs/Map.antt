@@ -26,6 +26,11 @@ module _ {A : Type 0} where
   alter k o [] = put k o []
   alter k o (p ∷ m) = byTri (tri k (p .0)) (put k o (p ∷ m)) (put k o m) (p ∷ alter k o m)
 
+  -- the keys of a map, in their order
+  unfoldable pub keys : Map A → List Key
+  keys [] = []
+  keys (p ∷ m) = p .0 ∷ keys m
+
   -- each key of the map comes after k
   abbrev pub Above : Key → Map A → Type 0
   Above k [] = Unit {0}

@@ -113,10 +113,6 @@ module _ (c : List ℕ) (p : ℕ) (r : Rec) (e : recAt c p ≡ some r) where
     pub says-short-key : length (r .key) ≤ 16
     says-short-key = omega (arith, key-length, on-page .short-key)
 
-    pub says-short-value : (v : List ℕ) → r .what ≡ some v → length v ≤ 96
-    says-short-value v q =
-        omega (arith, ap length (on-page .value v q), long 32 (byte (pageAt c p) 3) (omega (arith, on-page .short-value)), on-page .short-value)
-
 -- ---- WHAT THE CODE'S ANSWER MEANS: nothing, a value or a note
 pub kind-nothing : (o : Option Rec) → kindOf o ≡ Nothing → o ≡ none
 unfolding kindOf

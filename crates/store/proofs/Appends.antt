@@ -15,7 +15,7 @@ use Rattle.chip.proofs.Power.{write-stayed, write-went}
 use Rattle.chip.proofs.Plays.{did-none, did-write, did-meant, did-more, did-then, did-length}
 use Rattle.record.specs.Record.{Rec, Proper, recordOf, recordPage}
 use Rattle.log.specs.Key.{Key}
-use Rattle.log.specs.Map.{Map, lookup, alter, Sorted}
+use Rattle.log.specs.Map.{Map, lookup, alter, Sorted, keys}
 use Rattle.log.specs.Log.{Placed, placed, pages}
 use Rattle.log.specs.Ring.{Chip, chipOf, Ring, next, tableAt, table, mapOf, head, room, Ready}
 use Rattle.log.specs.Call.{resting, Wrote, CutWrote, Trace, append, append-cut}
@@ -33,7 +33,7 @@ use Rattle.index.specs.Index.{keysOf, Ordered}
 use Rattle.index.specs.Answers.{FindsBy, Finds, putAt, takeOut}
 use Rattle.index.specs.declared.Found.{Found}
 use Rattle.index.specs.declared.Found.the-variants.{At, Missing}
-use Rattle.index.proofs.Rows.{keys, table-keys, table-ordered, table-put, table-take}
+use Rattle.index.proofs.Rows.{table-keys, table-ordered, table-put, table-take}
 use Rattle.opening.specs.Steps.{Rooms}
 use Rattle.opening.specs.declared.Room.the-variants.{Place, Gone, Stuck}
 use Rattle.store.specs.declared.Change.{Change}

@@ -19,7 +19,7 @@ use Rattle.log.proofs.Start.{blank-map}
 use Rattle.store.specs.Ends.{blocksOf, Sized}
 use Rattle.store.specs.Calls.{mark, lentOf, Formats}
 use Rattle.log.specs.Answers.{sizesTest}
-use Rattle.store.specs.Reads.{Clears}
+use Rattle.store.specs.Reads.{ClearsAll}
 use Rattle.store.proofs.Numbers.{sizes-hold}
 use Rattle.store.specs.declared.Answer.the-variants.{Done, Refused}
 
@@ -47,10 +47,10 @@ blank-more noise c c′ x f f′ h e g l b p m = subst (λ (d : List ℕ). chipO
     go (yes k) = whole-erased noise x c h .block .full p (λ q. omega arith) ∙ b p k
     go (no k) = whole-erased noise x c h .blank p (omega arith)
 
-pub clears-lost : (b : ℕ) (c : List ℕ) (f : ℕ) → f ≡ 0 → Clears b c f false
+pub clears-lost : (b : ℕ) (c : List ℕ) (f : ℕ) → f ≡ 0 → ClearsAll b c f false
 clears-lost b c f z = record { blank = λ e. absurd (true≢false (sym e)); lit = λ e. absurd (true≢false (sym e)); lost = λ _. z }
 
-pub clears-all : (b : ℕ) (c : List ℕ) (f x : ℕ) → x ≡ b → 0 < f → Blank (16 * x) c → Clears b c f true
+pub clears-all : (b : ℕ) (c : List ℕ) (f x : ℕ) → x ≡ b → 0 < f → Blank (16 * x) c → ClearsAll b c f true
 clears-all b c f x e l h = record { blank = λ _ p m. h p (omega arith); lit = λ _. l; lost = λ e. absurd (true≢false e) }
 
 -- ---- FORMAT
@@ -78,7 +78,7 @@ module _ (c : List ℕ) (f : ℕ) (w : List ℕ) where
 
     module _ (on : mark w ≡ 2 → ⊥) (c′ : List ℕ) (f′ : ℕ) (w′ : List ℕ) where
       -- every block was erased
-      pub format-done : (b : ℕ) → b ≡ blocksOf c → length c′ ≡ length c → mark w′ ≡ 0 → (r : Bool) → r ≡ true → Clears b c′ f′ r
+      pub format-done : (b : ℕ) → b ≡ blocksOf c → length c′ ≡ length c → mark w′ ≡ 0 → (r : Bool) → r ≡ true → ClearsAll b c′ f′ r
           → Formats c f w c′ f′ w′ (formatAnswer (lentOf c f w)) (Done 0)
       unfolding refuse
       format-done b e k z r t h =
@@ -89,7 +89,7 @@ module _ (c : List ℕ) (f : ℕ) (w : List ℕ) where
           (record { ends = inl (refl, z, blank, blank-map (blocksOf c′) big (chipOf c′) blank) })
 
       -- the power went
-      pub format-lost : (b : ℕ) → mark w′ ≡ 2 → (r : Bool) → r ≡ false → Clears b c′ f′ r → Formats c f w c′ f′ w′ (formatAnswer (lentOf c f w)) (Refused 7)
+      pub format-lost : (b : ℕ) → mark w′ ≡ 2 → (r : Bool) → r ≡ false → ClearsAll b c′ f′ r → Formats c f w c′ f′ w′ (formatAnswer (lentOf c f w)) (Refused 7)
       unfolding refuse
       format-lost b z r t h =
           subst (λ (x : Says (Map (List ℕ))). Formats c f w c′ f′ w′ x (Refused 7))

@@ -44,7 +44,7 @@ pub record Readies (c : List ℕ) (h : ℕ) (w : List ℕ) (r : Answer) : Type 0
   pub ends : ReadiesBy c h w r
 
 -- every block erased: every page is blank and the power is on; or it went
-pub record Clears (b : ℕ) (c : List ℕ) (f : ℕ) (r : Bool) : Type 0 where
+pub record ClearsAll (b : ℕ) (c : List ℕ) (f : ℕ) (r : Bool) : Type 0 where
   pub blank : r ≡ true → (p : ℕ) → p < 16 * b → chipOf c .full p ≡ false
   pub lit : r ≡ true → 0 < f
   pub lost : r ≡ false → f ≡ 0

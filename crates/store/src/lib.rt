@@ -23,7 +23,7 @@ ghost use Rattle.store.specs.Scan.{sealedBelow, blankFrom, Replays};
 ghost use Rattle.store.specs.Ends.{blocksOf, Sized, Checked, Keyed, ChangeWithin, Undenied, ChangeKept, Got};
 ghost use Rattle.store.specs.Calls.{keyNumber, putNumber, Tested, Gets, PutEnds, DeleteEnds, GetEnds, CountEnds, StartEnds, FormatEnds};
 ghost use Rattle.store.specs.Changes.{isMissing, denial, Appends, Alters, Runs};
-ghost use Rattle.store.specs.Reads.{Counted, Fetches, Readies, Clears};
+ghost use Rattle.store.specs.Reads.{Counted, Fetches, Readies, ClearsAll};
 
 // How a call ended: it is done, with a number for those that answer one; or it was refused, with document 01's number.
 pub enum Answer {
@@ -582,7 +582,7 @@ pub fn start(chip: &[u8], work: &mut [u32], fuse: &u64) -> Answer
 fn erase_all(chip: &mut [u8], b: usize, fuse: &mut u64, noise: &[u8]) -> bool
     requires { ⌜ (4 ≤ b) × (b ≤ mostBlocks) × (length (now chip) ≡ 4096 * b) × (length (now noise) ≡ 4096) ⌝ }
     ensures did { λ r. ⌜ Did b 0 (now (noise .entry)) (now (chip .entry)) (now (fuse .entry)) (now (chip .exit)) (now (fuse .exit)) ⌝ }
-    ensures right { λ r. ⌜ Clears b (now (chip .exit)) (now (fuse .exit)) r ⌝ }
+    ensures right { λ r. ⌜ ClearsAll b (now (chip .exit)) (now (fuse .exit)) r ⌝ }
 {
     let mut x = 0;
     while x < b {
