@@ -2,12 +2,11 @@
 -- No layer above uses this: nothing there rests on what a cut erase leaves in its block. Assumes nothing.
 use mathlib.Core.Path.{_≡_, refl, sym, ap, _∙_}
 use mathlib.Core.List.{List, [], _∷_}
-use Prim.Native.Nat.{ℕ, suc, _+_, _*_, _≤_}
+use Prim.Native.Nat.{ℕ, _+_, _*_, _≤_}
 use native.Mathlib.Omega.{arith}
 use lib.ListN.{length, take, drop}
 use lib.Seq.{take-all}
 use Rattle.page.specs.Page.{each}
-use Rattle.page.proofs.Cut.{length-each}
 use Rattle.chip.specs.Chip.{goes, blockAt, news, splice, erased}
 use Rattle.chip.proofs.Splice.{splice-part}
 use Rattle.chip.proofs.Power.{length-part}

@@ -1,7 +1,7 @@
 -- What the code of `erase` and `write` leaves, by the number of the fault script. Assumes nothing.
-use mathlib.Core.Path.{_≡_, refl, ap, _∙_}
+use mathlib.Core.Path.{_≡_, refl, sym, ap, _∙_}
 use mathlib.Core.Bool.{true}
-use mathlib.Core.List.{List}
+use mathlib.Core.List.{List, [], _∷_}
 use Prim.Native.Nat.{ℕ, zero, suc, _+_, _-_, _*_, _≤_, _<_}
 use native.Mathlib.Nat.{not-suc-le-zero, le-of-suc-le-suc}
 use native.Mathlib.Omega.{arith}
@@ -9,8 +9,8 @@ use lib.ListN.{length, take, drop, replicate, length-drop, length-replicate}
 use lib.Seq.{length-take-le}
 use lib.Bits.{bitOr, bitAnd}
 use borrow.Rule.Slice.PartMut.{putMid, midOf}
-use Rattle.page.specs.Page.{Bytes, ors, ands}
-use Rattle.page.proofs.Cut.{length-each, ands-blank}
+use Rattle.page.specs.Page.{Bytes, each, ors, ands}
+use Rattle.page.proofs.Cut.{length-each, and-ones, ands-blank}
 use Rattle.chip.specs.Chip.{Power, goes, stays, power, pageAt, blockAt, blankAt, news, splice, erased, written}
 use Rattle.chip.proofs.Splice.{part-back, part-out}
 
@@ -27,45 +27,56 @@ power-stays (suc (suc f)) h = refl
 pub length-part : (a k : ℕ) (c : List ℕ) → a + k ≤ length c → length (take k (drop a c)) ≡ k
 length-part a k c h = length-take-le k (drop a c) (simp length-drop (omega arith))
 
--- ---- the block, lent as a part, has come back as ys
-module _ (f b : ℕ) (noise c ys : List ℕ) (h : 4096 * b + 4096 ≤ length c) where
-  pub erase-cut : f ≡ 1 → ys ≡ news (midOf (4096 * b) (4096 * b + 4096 - 4096 * b) c) noise
+-- ones, with the noise laid over them, are the noise: what stood there before is gone
+ones-laid : (zs ys : List ℕ) → length zs ≡ length ys → Bytes ys → ands (replicate (length zs) 255) ys ≡ news zs ys
+unfolding each
+ones-laid [] ys e small = refl
+ones-laid (z ∷ zs) [] e small = absurd (omega (arith, e))
+ones-laid (z ∷ zs) (y ∷ ys) e small =
+    ap (λ (x : ℕ). x ∷ ands (replicate (length zs) 255) ys) (and-ones y (small 0)) ∙ ap (λ (l : List ℕ). y ∷ l) (ones-laid zs ys (omega (arith, e)) (λ i. small (suc i)))
+
+-- ---- the block, lent as a part, was cleared to xs
+module _ (f b : ℕ) (noise c xs : List ℕ) (h : 4096 * b + 4096 ≤ length c) (x : xs ≡ replicate (length (midOf (4096 * b) (4096 * b + 4096 - 4096 * b) c)) 255) where
+  cleared : xs ≡ replicate (length (take 4096 (drop (4096 * b) c))) 255
+  cleared = x ∙ ap (λ (l : List ℕ). replicate (length l) 255) (part-out (4096 * b) 4096 c)
+
+  pub erase-whole : 1 < f → putMid (4096 * b) (4096 * b + 4096 - 4096 * b) c xs ≡ erased (power f) noise b c
+  unfolding erased
+  erase-whole e =
+      let x₂ : xs ≡ replicate 4096 255 = cleared ∙ ap (λ (k : ℕ). replicate k 255) (length-part (4096 * b) 4096 c h) in
+      rw (power-stays f e)
+      (part-back (4096 * b) 4096 c xs (ap length x₂ ∙ length-replicate {A = ℕ} 4096 255) ∙ ap (λ (l : List ℕ). splice c (4096 * b) l) x₂)
+
+  -- and then the noise was laid over it, which gave ys
+  pub erase-cut : length noise ≡ 4096 → Bytes noise → (ys : List ℕ) → f ≡ 1 → ys ≡ ands xs noise
       → putMid (4096 * b) (4096 * b + 4096 - 4096 * b) c ys ≡ erased (power f) noise b c
   unfolding erased blockAt
-  erase-cut e y =
-      let y₂ : ys ≡ news (take 4096 (drop (4096 * b) c)) noise = y ∙ ap (λ (l : List ℕ). news l noise) (part-out (4096 * b) 4096 c) in
+  erase-cut k small ys e y =
+      let n : length (take 4096 (drop (4096 * b) c)) ≡ 4096 = length-part (4096 * b) 4096 c h in
+      let y₂ : ys ≡ news (take 4096 (drop (4096 * b) c)) noise =
+      y ∙ ap (λ (l : List ℕ). ands l noise) cleared ∙ ones-laid (take 4096 (drop (4096 * b) c)) noise (n ∙ sym k) small in
       rw (power-goes f e)
-      (part-back (4096 * b) 4096 c ys (ap length y₂ ∙ length-each _ _ noise ∙ length-part (4096 * b) 4096 c h)
-      ∙ ap (λ (l : List ℕ). splice c (4096 * b) l) y₂)
+      (part-back (4096 * b) 4096 c ys (ap length y₂ ∙ length-each _ _ noise ∙ n) ∙ ap (λ (l : List ℕ). splice c (4096 * b) l) y₂)
 
-  pub erase-whole : 1 < f → ys ≡ replicate (length (midOf (4096 * b) (4096 * b + 4096 - 4096 * b) c)) 255
-      → putMid (4096 * b) (4096 * b + 4096 - 4096 * b) c ys ≡ erased (power f) noise b c
-  unfolding erased
-  erase-whole e y =
-      let y₂ : ys ≡ replicate 4096 255 =
-      y ∙ ap (λ (l : List ℕ). replicate (length l) 255) (part-out (4096 * b) 4096 c) ∙ ap (λ (k : ℕ). replicate k 255) (length-part (4096 * b) 4096 c h) in
-      rw (power-stays f e)
-      (part-back (4096 * b) 4096 c ys (ap length y₂ ∙ length-replicate {A = ℕ} 4096 255) ∙ ap (λ (l : List ℕ). splice c (4096 * b) l) y₂)
-
--- ---- the page, lent as a part, was burnt to xs
+-- ---- the page, lent as a part, became xs when new was laid over it
 module _ (f p : ℕ) (noise new c xs : List ℕ) (h : 256 * p + 256 ≤ length c) (x : xs ≡ ands (midOf (256 * p) (256 * p + 256 - 256 * p) c) new) where
-  burnt : xs ≡ ands (pageAt c p) new
+  laid-new : xs ≡ ands (pageAt c p) new
   unfolding pageAt
-  burnt = x ∙ ap (λ (l : List ℕ). ands l new) (part-out (256 * p) 256 c)
+  laid-new = x ∙ ap (λ (l : List ℕ). ands l new) (part-out (256 * p) 256 c)
 
   pub write-whole : 1 < f → putMid (256 * p) (256 * p + 256 - 256 * p) c xs ≡ written (power f) noise p new c
   unfolding written pageAt
   write-whole e =
       rw (power-stays f e)
-      (part-back (256 * p) 256 c xs (ap length burnt ∙ length-each bitAnd _ new ∙ length-part (256 * p) 256 c h) ∙ ap (λ (l : List ℕ). splice c (256 * p) l) burnt)
+      (part-back (256 * p) 256 c xs (ap length laid-new ∙ length-each bitAnd _ new ∙ length-part (256 * p) 256 c h) ∙ ap (λ (l : List ℕ). splice c (256 * p) l) laid-new)
 
-  -- and then blurred to ys: that the page was blank is needed here
+  -- and then the noise was laid over it, which gave ys: that the page was blank is needed here
   pub write-cut : length new ≡ 256 → blankAt c p ≡ true → Bytes new → (ys : List ℕ) → f ≡ 1 → ys ≡ ors xs noise
       → putMid (256 * p) (256 * p + 256 - 256 * p) c ys ≡ written (power f) noise p new c
   unfolding written blankAt pageAt
   write-cut k bl small ys e y =
       let y₂ : ys ≡ ors new noise =
-      y ∙ ap (λ (l : List ℕ). ors l noise) (burnt ∙ ands-blank (take 256 (drop (256 * p) c)) new (length-part (256 * p) 256 c h) k bl small) in
+      y ∙ ap (λ (l : List ℕ). ors l noise) (laid-new ∙ ands-blank (take 256 (drop (256 * p) c)) new (length-part (256 * p) 256 c h) k bl small) in
       rw (power-goes f e)
       (part-back (256 * p) 256 c ys (ap length y₂ ∙ length-each bitOr new noise ∙ k) ∙ ap (λ (l : List ℕ). splice c (256 * p) l) y₂)
 

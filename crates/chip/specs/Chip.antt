@@ -1,9 +1,10 @@
 -- The chip (document 01, section 1), and what an operation leaves of it, whole and cut short (docs/FAULTS.md: document 03, section 1, with request 7).
 -- A chip is a list of bytes. Nothing here mentions code. Assumes nothing.
-use mathlib.Core.Bool.{Bool}
+use mathlib.Core.Bool.{Bool, true, false}
 use mathlib.Core.List.{List, _++_}
 use Prim.Native.Nat.{ℕ, zero, suc, _+_, _*_}
 use lib.ListN.{length, take, drop, replicate}
+use lib.Bits.{bitOr, bitAnd}
 use Rattle.page.specs.Page.{blank, each, ors, ands}
 
 -- the 256 bytes of page p, and the 4,096 bytes of block b, whose pages are 16 b to 16 b + 15
@@ -33,6 +34,11 @@ power (suc (suc n)) = stays
 -- the second list's byte at each index, whatever stood there; past its end the first is as it was
 abbrev pub news : List ℕ → List ℕ → List ℕ
 news = each (λ x y. y)
+
+-- bits that are 1 in the second byte become 1 in the first, or those that are 0 there become 0
+abbrev pub turned : Bool → ℕ → ℕ → ℕ
+turned true = bitOr
+turned false = bitAnd
 
 -- ERASE BLOCK b: all its bytes become 0xFF; cut short, they are any bytes whatever, those of the noise; with the power gone nothing changes
 unfoldable pub erased : Power → List ℕ → ℕ → List ℕ → List ℕ

@@ -6,9 +6,9 @@ ghost use mathlib.Core.Path.{_≡_};
 ghost use mathlib.Core.Bool.{true};
 ghost use Prim.Native.Nat.{_+_, _-_, _*_, _≤_};
 ghost use lib.ListN.{length, replicate};
-ghost use Rattle.page.specs.Page.{ors, ands};
+ghost use Rattle.page.specs.Page.{each};
 ghost use Rattle.page.specs.Look.{lookOf};
-ghost use Rattle.chip.specs.Chip.{pageAt, blankAt, news, power, erased, written};
+ghost use Rattle.chip.specs.Chip.{pageAt, blankAt, turned, power, erased, written};
 
 // Whether page p is blank, so that it may be written.
 pub fn blank_at(chip: &[u8], p: usize) -> bool
@@ -40,41 +40,22 @@ fn clear(dst: &mut [u8])
     }
 }
 
-// Bits that are 0 in src become 0.
-fn burn(dst: &mut [u8], src: &[u8])
+// The byte y laid over x: bits that are 1 in y become 1, or those that are 0 there become 0.
+fn laid(x: u8, y: u8, set: bool) -> u8
+    ensures { λ r. ⌜ r ≡ turned set x y ⌝ }
+{
+    if set { x | y } else { x & y }
+}
+
+// The bytes of src are laid over those of dst.
+fn lay(dst: &mut [u8], src: &[u8], set: bool)
     requires { ⌜ length (now dst) ≤ length (now src) ⌝ }
-    ensures { λ _. ⌜ now (dst .exit) ≡ ands (now (dst .entry)) (now (src .entry)) ⌝ }
+    ensures { λ _. ⌜ now (dst .exit) ≡ each (turned set) (now (dst .entry)) (now (src .entry)) ⌝ }
 {
     let n = dst.len();
     let mut i = 0;
     while i < n {
-        dst[i] = dst[i] & src[i];
-        i += 1;
-    }
-}
-
-// Bits that are 1 in the noise become 1.
-fn blur(dst: &mut [u8], noise: &[u8])
-    requires { ⌜ length (now dst) ≤ length (now noise) ⌝ }
-    ensures { λ _. ⌜ now (dst .exit) ≡ ors (now (dst .entry)) (now (noise .entry)) ⌝ }
-{
-    let n = dst.len();
-    let mut i = 0;
-    while i < n {
-        dst[i] = dst[i] | noise[i];
-        i += 1;
-    }
-}
-
-// The noise takes the place of what was there.
-fn overwrite(dst: &mut [u8], noise: &[u8])
-    requires { ⌜ length (now dst) ≤ length (now noise) ⌝ }
-    ensures { λ _. ⌜ now (dst .exit) ≡ news (now (dst .entry)) (now (noise .entry)) ⌝ }
-{
-    let n = dst.len();
-    let mut i = 0;
-    while i < n {
-        dst[i] = noise[i];
+        dst[i] = laid(dst[i], src[i], set);
         i += 1;
     }
 }
@@ -92,11 +73,11 @@ pub fn erase(chip: &mut [u8], b: usize, fuse: &mut u64, noise: &[u8])
     let a = 4096 * b;
     let block = &mut chip[a..a + 4096];
     *fuse = f - 1;
-    if f == 1 {
-        overwrite(block, noise);
-        return;
-    }
     clear(block);
+    // cut short, any bytes may stand there: those of the noise
+    if f == 1 {
+        lay(block, noise, false);
+    }
 }
 
 // Writes page p, which is blank: by the maker's rules no other page may be written.
@@ -113,9 +94,8 @@ pub fn write(chip: &mut [u8], p: usize, new: &[u8], fuse: &mut u64, noise: &[u8]
     let a = 256 * p;
     let page = &mut chip[a..a + 256];
     *fuse = f - 1;
-    burn(page, new);
+    lay(page, new, false);
     if f == 1 {
-        blur(page, noise);
-        return;
+        lay(page, noise, true);
     }
 }

@@ -26,7 +26,7 @@ use Rattle.store.specs.Calls.{mapIn, mark, lentOf, lentToStart, Holds, Kept, St
 use Rattle.store.specs.declared.Answer.{Answer}
 use Rattle.store.specs.declared.Answer.the-variants.{Done, Refused}
 use Rattle.store.proofs.Gets.{map-rows}
-use Rattle.store.proofs.Numbers.{sizes-hold}
+use Rattle.store.proofs.Numbers.{sizes-hold, refused-inj, done≢refused}
 use Rattle.histories.specs.History.{Phase, off, on, started, failed, counted, History, Fresh, begin, found, dark, start, put, delete, get, count, next, ToldBy, Tells}
 
 module _ (B : ℕ) (big : 4 ≤ B) where
@@ -224,18 +224,9 @@ module _ (B : ℕ) (big : 4 ≤ B) where
 
   -- ---- THEOREM NUMBERS: 9 is never answered, however many pages have been written
   never-9 : (s : Says (Map (List ℕ))) (f′ : ℕ) (r : Answer) (m m′ : Map (List ℕ)) → s ≢ refused 9 → ToldBy s f′ r m m′ → r ≢ Refused 9
-  never-9 (refused k) f′ r m m′ d (er, em) e = d (ap (λ (i : ℕ). refused i) (number-is k (sym er ∙ e)))
-    where
-      number-is : (k : ℕ) → Refused k ≡ Refused 9 → k ≡ 9
-      number-is k e = cc
-  never-9 (done k) f′ r m m′ d (inl (er, em)) e = let z : Done 0 ≡ Refused 9 = sym er ∙ e in done-refused z
-    where
-      done-refused : Done 0 ≡ Refused 9 → ⊥
-      done-refused e = let z : _≡_ {A = ℕ} 0 1 = cc in omega arith
-  never-9 (done k) f′ r m m′ d (inr (er, gone, em)) e = seven (sym er ∙ e)
-    where
-      seven : Refused 7 ≡ Refused 9 → ⊥
-      seven e = let z : _≡_ {A = ℕ} 7 9 = cc in omega arith
+  never-9 (refused k) f′ r m m′ d (er, em) e = d (ap (λ (i : ℕ). refused i) (refused-inj k 9 (sym er ∙ e)))
+  never-9 (done k) f′ r m m′ d (inl (er, em)) e = done≢refused 0 9 (sym er ∙ e)
+  never-9 (done k) f′ r m m′ d (inr (er, gone, em)) e = omega (arith, refused-inj 7 9 (sym er ∙ e))
 
   pub put-never-9 : {noise : List ℕ} {f : ℕ} {w c : List ℕ} {n q : ℕ} {ops : List Op} (key value c′ : List ℕ) (f′ : ℕ) (w′ : List ℕ) (r : Answer)
       → PutEnds noise c f w key value c′ f′ w′ r → History B (on noise f w) c n q ops → r ≢ Refused 9

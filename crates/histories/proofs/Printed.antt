@@ -12,7 +12,7 @@ use Rattle.log.specs.Map.{Map, lookup, put, alter}
 use Rattle.log.specs.Answers.{Lent, printed, refused, done, putAnswer, deleteAnswer}
 use Rattle.log.specs.Answers.{Answer as Says}
 use Rattle.log.proofs.MapLaws.{some≢none, lookup-there, alter-cases}
-use Rattle.log.proofs.AnswerLaws.{refuse-done}
+use Rattle.log.proofs.AnswerLaws.{refuse-done, done-is}
 use Rattle.store.specs.Calls.{mapIn, lentOf}
 use Rattle.store.specs.declared.Answer.{Answer}
 use Rattle.keys.specs.Walk.{Has}
@@ -58,18 +58,12 @@ module _ (l : Lent) (k : Key) (m n : Map (List ℕ)) (h : Printed m) where
       let b = refuse-done 1 _ _ n (a .1) in
       let d = refuse-done 3 _ _ n (refuse-done 2 _ _ n (b .1) .1) in
       subst Printed (done-is (alter k (some v) m) n (d .1)) (printed-alter k (some v) (λ _ _. not-false _ (b .0)) m h)
-    where
-      done-is : (x y : Map (List ℕ)) → done x ≡ done y → x ≡ y
-      done-is x y e = cc
 
   delete-printed : deleteAnswer l k m ≡ done n → Printed n
   delete-printed e =
       let a = refuse-done 1 _ _ n (refuse-done 8 _ _ n (refuse-done 7 _ _ n (refuse-done 5 _ _ n e .1) .1) .1) in
       let d = refuse-done 4 _ _ n (a .1) in
       subst Printed (done-is (alter k none m) n (d .1)) (printed-alter k none (λ v z. absurd (some≢none (sym z))) m h)
-    where
-      done-is : (x y : Map (List ℕ)) → done x ≡ done y → x ≡ y
-      done-is x y e = cc
 
 told-printed : (s : Says (Map (List ℕ))) (f′ : ℕ) (r : Answer) (m m′ : Map (List ℕ)) → Printed m → ((n : Map (List ℕ)) → s ≡ done n → Printed n) → ToldBy s f′ r m m′ → Printed m′
 told-printed (refused k) f′ r m m′ h g (er, em) = subst Printed (sym em) h

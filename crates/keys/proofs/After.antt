@@ -3,20 +3,19 @@ use mathlib.Core.Path.{_≡_, refl, sym, ap, _∙_, subst}
 use mathlib.Core.Logic.{_⊎_, inl, inr}
 use mathlib.Core.List.{List, [], _∷_}
 use mathlib.Core.Option.{Option, none, some}
-use mathlib.Core.Bool.{Bool, true, false}
+use mathlib.Core.Bool.{Bool}
 use Prim.Native.Nat.{ℕ, zero, suc, _+_, _-_, _/_, _≤_, _<_, zero-le, suc-le-suc}
 use native.Mathlib.Nat.{eq-or-lt-of-le}
 use native.Mathlib.Omega.{arith}
 use lib.Dec.{leb}
-use lib.ListN.{length, take, drop, getD, length-drop, drop-of-length-le}
-use lib.Seq.{drop-cons, getD-take, length-take-le, take-all}
+use lib.ListN.{length, take, drop, getD, drop-of-length-le}
+use lib.Seq.{drop-cons, getD-take, length-take-le}
 use borrow.Author.Tests.{le-leb, lt-leb}
 use borrow.Rule.Slice.PartMut.{midOf}
 use Rattle.record.specs.Record.{keyAt}
 use Rattle.log.specs.Key.{Key, _≺_, tri<, tri≡, tri>, tri}
 use Rattle.log.specs.Map.{Map, keys}
-use Rattle.log.specs.Answers.{refuse, lent, gotten}
-use Rattle.log.specs.Answers.{Answer as Says}
+use Rattle.log.specs.Answers.{lent, gotten}
 use Rattle.log.proofs.KeyLaws.{≺-irrefl, ≺-asym, byTri-<, byTri-≡, byTri->}
 use Rattle.index.specs.Index.{keysOf, Ordered}
 use Rattle.index.specs.Answers.{FindsBy, Finds}
@@ -24,14 +23,15 @@ use Rattle.index.specs.declared.Found.{Found}
 use Rattle.index.specs.declared.Found.the-variants.{At, Missing}
 use Rattle.index.proofs.Search.{nth-key, length-keys}
 use Rattle.index.proofs.Rows.{table-keys}
-use Rattle.store.specs.Ends.{blocksOf, Checked}
+use Rattle.store.specs.Ends.{blocksOf}
 use Rattle.store.specs.Calls.{mapIn, lentOf, Kept, number, lentNumber, due, Tested, Gets}
 use Rattle.store.specs.declared.Answer.{Answer}
 use Rattle.store.specs.declared.Answer.the-variants.{Refused}
 use Rattle.store.proofs.Rows.{index-ordered}
-use Rattle.store.proofs.Numbers.{lent-due, tested-first, tested-next}
-use Rattle.store.proofs.Gets.{due-refused}
-use Rattle.keys.specs.Next.{nextKey, nextAnswer, first, HandsFrom, HandsNext}
+use Rattle.store.specs.Reads.{Fetches}
+use Rattle.store.proofs.Numbers.{lent-due, refuse-due, tested-first, tested-next}
+use Rattle.store.proofs.Gets.{got-refused, got-fetched}
+use Rattle.keys.specs.Next.{nextKey, nextAnswer, first, HandsFrom}
 
 -- ---- THE NEXT KEY, one pair at a time
 module _ {A : Type 0} (k : Key) (p : Key × A) (m : Map A) where
@@ -114,7 +114,7 @@ module _ (c ix : List ℕ) (n i : ℕ) (fits : n ≤ length ix) where
 module _ (c ps : List ℕ) (k : Key) (f : Found) (finds : Ordered c ps → Finds (keysOf c ps) k f) (b b′ : List ℕ) (r : Answer) where
   -- from the first entry whose key comes after k
   hands-by : (i : ℕ) → ((o : Ordered c ps) (j : ℕ) → j < i → k ≺ getD (keysOf c ps) j [] → ⊥) → ((o : Ordered c ps) (j : ℕ) → i ≤ j → j < length (keysOf c ps) → k ≺ getD (keysOf c ps) j [])
-      → HandsFrom c ps i b b′ r → HandsNext c ps k b b′ r
+      → HandsFrom c ps i b b′ r → Fetches c ps (nextKey k (mapIn c)) b b′ r
   hands-by i before behind h =
       record {
         right = λ big size same.
@@ -136,56 +136,35 @@ module _ (c ps : List ℕ) (k : Key) (f : Found) (finds : Ordered c ps → Finds
     missing e o = subst (Finds (keysOf c ps) k) e (finds o) .says
 
     -- x is where the keys after k begin
-    pub hands-after : f ≡ At i → (x : ℕ) → HandsFrom c ps x b b′ r → x ≡ i + 1 → HandsNext c ps k b b′ r
+    pub hands-after : f ≡ At i → (x : ℕ) → HandsFrom c ps x b b′ r → x ≡ i + 1 → Fetches c ps (nextKey k (mapIn c)) b b′ r
     hands-after e x h q = hands-by x (λ o j l. found-none c ps o k i (at e o) j (omega arith)) (λ o j l. found-all c ps o k i (at e o) j (omega arith)) h
 
-    pub hands-missed : f ≡ Missing i → (x : ℕ) → HandsFrom c ps x b b′ r → x ≡ i → HandsNext c ps k b b′ r
+    pub hands-missed : f ≡ Missing i → (x : ℕ) → HandsFrom c ps x b b′ r → x ≡ i → Fetches c ps (nextKey k (mapIn c)) b b′ r
     hands-missed e x h q = hands-by x (λ o j l y. ≺-asym k (getD (keysOf c ps) j []) y (missing e o .1 j (omega arith))) (λ o j l. missing e o .2 j (omega arith)) h
 
 -- ---- THE CALL
 
 -- the number that is due of the key
-abbrev keyNumber : Key → ℕ
-keyNumber k = number 1 (leb 17 (length k)) 0
-
-one-due : (k : Key) (a : Says (ℕ × List ℕ)) → refuse 1 (leb 17 (length k)) a ≡ due (keyNumber k) a
-unfolding refuse
-one-due k a = go (leb 17 (length k))
-  where
-    go : (x : Bool) → refuse 1 x a ≡ due (number 1 x 0) a
-    go true = refl
-    go false = refl
+abbrev nextNumber : Key → ℕ
+nextNumber k = number 1 (leb 17 (length k)) 0
 
 module _ (c : List ℕ) (f : ℕ) (w key b b′ : List ℕ) where
-  next-due : nextAnswer (lentOf c f w) key b (mapIn c) ≡ due (lentNumber (lentOf c f w) (keyNumber key)) (gotten b (nextKey key (mapIn c)))
+  next-due : nextAnswer (lentOf c f w) key b (mapIn c) ≡ due (lentNumber (lentOf c f w) (nextNumber key)) (gotten b (nextKey key (mapIn c)))
   next-due =
-      ap (lent (lentOf c f w)) (one-due key (gotten b (nextKey key (mapIn c)))) ∙ lent-due (lentOf c f w) (keyNumber key) (gotten b (nextKey key (mapIn c)))
+      ap (lent (lentOf c f w)) (refuse-due 0 (leb 17 (length key)) (gotten b (nextKey key (mapIn c)))) ∙ lent-due (lentOf c f w) (nextNumber key) (gotten b (nextKey key (mapIn c)))
 
-  -- a number that is due is answered
-  answered : (k : ℕ) → 0 < k → Tested c f w (keyNumber key) k → Kept c f w → Gets b b (nextAnswer (lentOf c f w) key b (mapIn c)) (Refused k)
-  answered k l t h =
-      subst (λ (s : Says (ℕ × List ℕ)). Gets b b s (Refused k))
-      (sym (next-due ∙ ap (λ (n : ℕ). due n (gotten b (nextKey key (mapIn c)))) (sym (t .due h)) ∙ due-refused k _ l)) (record { ends = (refl, refl) })
-
-  -- of what is lent
+  -- refused: of what is lent
   pub next-refused : (k : ℕ) → 0 < k → Tested c f w 0 k → Kept c f w → Gets b b (nextAnswer (lentOf c f w) key b (mapIn c)) (Refused k)
-  next-refused k l t h = answered k l (tested-first c f w (keyNumber key) k l t) h
+  next-refused k l t h = got-refused c f w b b (nextNumber key) (nextKey key (mapIn c)) _ next-due k (tested-first c f w (nextNumber key) k l t) h l
 
   module _ (k : ℕ) (z : k ≡ 0) (t : Tested c f w 0 k) where
     -- of the key
     pub next-long : (a : ℕ) → a ≡ 1 → 16 < length key → Kept c f w → Gets b b (nextAnswer (lentOf c f w) key b (mapIn c)) (Refused a)
     next-long a e l h =
-        answered a (omega arith) (tested-next c f w (keyNumber key) k a z t (e ∙ sym (ap (λ (x : Bool). number 1 x 0) (le-leb 17 (length key) l)))) h
+        got-refused c f w b b (nextNumber key) (nextKey key (mapIn c)) _ next-due a (tested-next c f w (nextNumber key) k a z t (e ∙ sym (ap (λ (x : Bool). number 1 x 0) (le-leb 17 (length key) l)))) h (omega arith)
 
-    -- none is due. The index is the part of the area from word 16 on
-    pub next-handed : (n : ℕ) (r : Answer) → length key ≤ 16 → n ≡ getD w 3 0 → HandsNext c (take n (midOf 16 (length w - 16) w)) key b b′ r
+    -- none is due
+    pub next-handed : (n : ℕ) (r : Answer) → length key ≤ 16 → n ≡ getD w 3 0 → Fetches c (take n (midOf 16 (length w - 16) w)) (nextKey key (mapIn c)) b b′ r
         → Kept c f w → Gets b b′ (nextAnswer (lentOf c f w) key b (mapIn c)) r
     next-handed n r l e g h =
-        let s : Checked c w = t .checked z in
-        let rest : midOf 16 (length w - 16) w ≡ drop 16 w = take-all (length w - 16) (drop 16 w) (omega (arith, length-drop 16 w)) in
-        let u : Tested c f w (keyNumber key) 0 =
-        tested-next c f w (keyNumber key) k 0 z t (sym (ap (λ (x : Bool). number 1 x 0) (lt-leb 17 (length key) (omega arith)))) in
-        subst (λ (x : Says (ℕ × List ℕ)). Gets b b′ x r)
-        (sym (next-due ∙ ap (λ (i : ℕ). due i (gotten b (nextKey key (mapIn c)))) (sym (u .due h))))
-        (g .right (s .sized .some-blocks) (s .sized .whole)
-        (ap (take n) rest ∙ ap (λ (i : ℕ). take i (drop 16 w)) e ∙ h .holds (s .sized) (t .lit z) (t .marked z) .ready .rows))
+        got-fetched c f w b b′ (nextNumber key) (nextKey key (mapIn c)) _ next-due 0 (tested-next c f w (nextNumber key) k 0 z t (sym (ap (λ (x : Bool). number 1 x 0) (lt-leb 17 (length key) (omega arith))))) h n r refl e g

@@ -1,9 +1,9 @@
 -- What an answer of next says of the map: a length, that the key at the start of the buffer is the next one; 4, that there is none. Assumes nothing.
 use mathlib.Core.Path.{_≡_, refl, sym, ap, _∙_, subst}
-use mathlib.Core.Logic.{_≢_, _⊎_, inl, inr}
+use mathlib.Core.Logic.{_⊎_, inl, inr}
 use mathlib.Core.List.{List, _++_}
 use mathlib.Core.Option.{Option, none, some}
-use mathlib.Core.Bool.{Bool, true, false}
+use mathlib.Core.Bool.{Bool}
 use Prim.Native.Nat.{ℕ, suc, _≤_, _<_}
 use native.Mathlib.Omega.{arith}
 use lib.ListN.{length, take, drop}
@@ -13,55 +13,38 @@ use Rattle.log.specs.Key.{Key}
 use Rattle.log.specs.Map.{Map}
 use Rattle.log.specs.Answers.{Lent, refuse, refused, done, gotten}
 use Rattle.log.specs.Answers.{Answer as Says}
-use Rattle.log.proofs.AnswerLaws.{refuse-done, done-never}
+use Rattle.log.proofs.AnswerLaws.{refuse-other, refuse-done, done-never, done-is}
 use Rattle.store.specs.Ends.{Sized}
 use Rattle.store.specs.Calls.{mapIn, mark, lentOf, GetsBy, Gets}
 use Rattle.store.specs.declared.Answer.{Answer}
 use Rattle.store.specs.declared.Answer.the-variants.{Done, Refused}
-use Rattle.store.proofs.Numbers.{sizes-hold}
+use Rattle.store.proofs.Numbers.{sizes-hold, done-inj, refused-inj, done≢refused}
 use Rattle.keys.specs.Next.{nextKey, nextAnswer}
 use Rattle.keys.proofs.Chips.{map-key}
 use Rattle.keys.proofs.Walks.{next-has}
 
 -- ---- an answer of the code is that of the document
-done-is : (a b : ℕ) → Done a ≡ Done b → a ≡ b
-done-is a b e = cc
-
-number-is : (a b : ℕ) → Refused a ≡ Refused b → a ≡ b
-number-is a b e = cc
-
-done-refused : (a b : ℕ) → Done a ≡ Refused b → ⊥
-done-refused a b e = let z : _≡_ {A = ℕ} 0 1 = cc in omega arith
-
 says-done : (b b′ : List ℕ) (s : Says (ℕ × List ℕ)) (n : ℕ) → Gets b b′ s (Done n) → s ≡ done (n, b′)
 says-done b b′ s n g = go s (g .ends)
   where
     go : (s : Says (ℕ × List ℕ)) → GetsBy b b′ s (Done n) → s ≡ done (n, b′)
-    go (refused k) (e, q) = absurd (done-refused n k e)
-    go (done v) (e, q) = let d : v .0 ≡ n = sym (done-is n (v .0) e) in let o : v .1 ≡ b′ = sym q in λ i. done (d i, o i)
+    go (refused k) (e, q) = absurd (done≢refused n k e)
+    go (done v) (e, q) = let d : v .0 ≡ n = sym (done-inj n (v .0) e) in let o : v .1 ≡ b′ = sym q in λ i. done (d i, o i)
 
 says-refused : (b b′ : List ℕ) (s : Says (ℕ × List ℕ)) (k : ℕ) → Gets b b′ s (Refused k) → s ≡ refused k
 says-refused b b′ s k g = go s (g .ends)
   where
     go : (s : Says (ℕ × List ℕ)) → GetsBy b b′ s (Refused k) → s ≡ refused k
-    go (refused j) (e, q) = ap (λ (i : ℕ). refused i) (sym (number-is k j e))
-    go (done v) (e, q) = absurd (done-refused (v .0) k (sym e))
+    go (refused j) (e, q) = ap (λ (i : ℕ). refused i) (sym (refused-inj k j e))
+    go (done v) (e, q) = absurd (done≢refused (v .0) k (sym e))
 
 -- ---- what is behind the tests
-module _ {A : Type 0} where
-  refuse-other : (n k : ℕ) (t : Bool) (a : Says A) → n ≢ k → refuse n t a ≡ refused k → a ≡ refused k
-  unfolding refuse
-  refuse-other n k true a d e = absurd (d (let z : n ≡ k = cc in z))
-  refuse-other n k false a d e = e
-
-  pair-is : (x y : A) → done x ≡ done y → x ≡ y
-  pair-is x y e = cc
 
 -- a key that was gotten stands at the start of the buffer
 gotten-done : (b b′ : List ℕ) (n : ℕ) (o : Option Key) → gotten b o ≡ done (n, b′) → o ≡ some (take n b′)
 gotten-done b b′ n none e = absurd (done-never (n, b′) 4 (sym e))
 gotten-done b b′ n (some k) e =
-    let q : _≡_ {A = ℕ × List ℕ} (length k, k ++ drop (length k) b) (n, b′) = pair-is _ (n, b′) (refuse-done 6 _ _ (n, b′) e .1) in
+    let q : _≡_ {A = ℕ × List ℕ} (length k, k ++ drop (length k) b) (n, b′) = done-is _ (n, b′) (refuse-done 6 _ _ (n, b′) e .1) in
     ap (λ (x : Key). some x) (sym (take-append-seam k (drop (length k) b)) ∙ ap (λ (v : ℕ × List ℕ). take (v .0) (v .1)) q)
 
 gotten-refused : (b : List ℕ) (o : Option Key) → gotten b o ≡ refused 4 → o ≡ none

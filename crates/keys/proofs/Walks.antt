@@ -47,6 +47,11 @@ module _ {A : Type 0} (k : Key) where
   cases : (p : Key × A) → (k ≺ p .0) ⊎ (k ≺ p .0 → ⊥)
   cases p = elim (tri k (p .0)) [ tri< h ↦ inl h | tri≡ h ↦ inr (λ l. ≺-ne k (p .0) l h) | tri> h ↦ inr (λ l. ≺-irrefl k (≺-trans k (p .0) k l h)) ]
 
+  -- a key after k that has a value is not the first, if that doesn't come after k
+  has-rest : (p : Key × A) (m : Map A) (x : Key) → (k ≺ p .0 → ⊥) → k ≺ x → (x ≡ p .0) ⊎ Has x m → Has x m
+  has-rest p m x h l (inl d) = absurd (h (subst (λ (y : Key). k ≺ y) d l))
+  has-rest p m x h l (inr d) = d
+
   -- IT COMES AFTER k
   pub next-after : (m : Map A) (j : Key) → nextKey k m ≡ some j → k ≺ j
   unfolding nextKey
@@ -74,16 +79,12 @@ module _ {A : Type 0} (k : Key) where
   next-least (p ∷ m) j x s e g l =
       elim (cases p) [
         | inl h ↦ first (some-inj (sym (next-here k p m h) ∙ e)) (has-cons x p m g)
-        | inr h ↦ next-least m j x (s .1) (sym (next-there k p m h) ∙ e) (rest h (has-cons x p m g)) l
+        | inr h ↦ next-least m j x (s .1) (sym (next-there k p m h) ∙ e) (has-rest p m x h l (has-cons x p m g)) l
       ]
     where
       first : p .0 ≡ j → (x ≡ p .0) ⊎ Has x m → (j ≡ x) ⊎ (j ≺ x)
       first q (inl d) = inl (sym q ∙ sym d)
       first q (inr d) = inr (subst (λ (y : Key). y ≺ x) q (above-has (p .0) x m (s .0) d))
-
-      rest : (k ≺ p .0 → ⊥) → (x ≡ p .0) ⊎ Has x m → Has x m
-      rest h (inl d) = absurd (h (subst (λ (y : Key). k ≺ y) d l))
-      rest h (inr d) = d
 
   -- where there is none, no key after k has a value
   pub next-none : (m : Map A) (x : Key) → nextKey k m ≡ none → Has x m → k ≺ x → ⊥
@@ -92,12 +93,8 @@ module _ {A : Type 0} (k : Key) where
   next-none (p ∷ m) x e g l =
       elim (cases p) [
         | inl h ↦ some≢none (sym (next-here k p m h) ∙ e)
-        | inr h ↦ next-none m x (sym (next-there k p m h) ∙ e) (rest h (has-cons x p m g)) l
+        | inr h ↦ next-none m x (sym (next-there k p m h) ∙ e) (has-rest p m x h l (has-cons x p m g)) l
       ]
-    where
-      rest : (k ≺ p .0 → ⊥) → (x ≡ p .0) ⊎ Has x m → Has x m
-      rest h (inl d) = absurd (h (subst (λ (y : Key). k ≺ y) d l))
-      rest h (inr d) = d
 
 -- ---- HOW OFTEN A KEY IS AMONG THE KEYS
 times-here : (x j : Key) (js : List Key) → x ≡ j → times x (j ∷ js) ≡ 1 + times x js

@@ -1,18 +1,14 @@
 -- THE NEXT KEY (document 02, request 8). Assumes nothing.
-use mathlib.Core.Path.{_≡_}
 use mathlib.Core.List.{List, [], _∷_}
 use mathlib.Core.Option.{Option, none, some}
-use Prim.Native.Nat.{ℕ, _*_, _≤_}
+use Prim.Native.Nat.{ℕ}
 use lib.Dec.{leb}
 use lib.ListN.{length, drop}
 use Rattle.log.specs.Key.{Key, byTri, tri}
 use Rattle.log.specs.Map.{Map}
-use Rattle.log.specs.Log.{pages}
-use Rattle.log.specs.Ring.{chipOf, table}
 use Rattle.log.specs.Answers.{Lent, refuse, lent, gotten}
 use Rattle.log.specs.Answers.{Answer as Says}
 use Rattle.index.specs.Index.{keysOf, Ordered}
-use Rattle.store.specs.Ends.{blocksOf}
 use Rattle.store.specs.Calls.{mapIn, lentOf, Kept, Gets}
 use Rattle.store.specs.declared.Answer.{Answer}
 
@@ -30,7 +26,7 @@ nextAnswer l k buffer m = lent l (refuse 1 (leb 17 (length k)) (gotten buffer (n
 abbrev pub NextEnds : List ℕ → ℕ → List ℕ → List ℕ → List ℕ → List ℕ → Answer → Type 0
 NextEnds c f w key b b′ r = Kept c f w → Gets b b′ (nextAnswer (lentOf c f w) key b (mapIn c)) r
 
--- ---- the inner functions
+-- ---- the inner function
 
 -- the first of some keys
 abbrev pub first : List Key → Option Key
@@ -40,7 +36,3 @@ first (k ∷ ks) = some k
 -- what is handed out from entry i on: where the entries are pages of the chip in the order of their keys, the key of the first of them goes to the buffer
 pub record HandsFrom (c ps : List ℕ) (i : ℕ) (b b′ : List ℕ) (r : Answer) : Type 0 where
   pub right : Ordered c ps → Gets b b′ (gotten b (first (drop i (keysOf c ps)))) r
-
--- what is handed out for a key: where the entries are those of the chip's table, the next key goes to the buffer
-pub record HandsNext (c ps key b b′ : List ℕ) (r : Answer) : Type 0 where
-  pub right : 4 ≤ blocksOf c → length c ≡ 4096 * blocksOf c → ps ≡ pages (blocksOf c) (table (blocksOf c) (chipOf c)) → Gets b b′ (gotten b (nextKey key (mapIn c))) r

@@ -5,7 +5,9 @@ use store::Answer;
 ghost use Prim.Native.Nat.{_≤_};
 ghost use lib.ListN.{length, take};
 ghost use Rattle.store.specs.Ends.{Got};
-ghost use Rattle.keys.specs.Next.{HandsFrom, HandsNext, NextEnds};
+ghost use Rattle.store.specs.Calls.{mapIn};
+ghost use Rattle.store.specs.Reads.{Fetches};
+ghost use Rattle.keys.specs.Next.{nextKey, HandsFrom, NextEnds};
 
 // The key on the page of entry i, if there are so many entries.
 fn hand_key(chip: &[u8], index: &[u32], n: usize, i: usize, buffer: &mut [u8]) -> Answer
@@ -27,7 +29,7 @@ fn hand_key(chip: &[u8], index: &[u32], n: usize, i: usize, buffer: &mut [u8]) -
 fn hand_next(chip: &[u8], index: &[u32], n: usize, key: &[u8], buffer: &mut [u8]) -> Answer
     requires { ⌜ n ≤ length (now index) ⌝ }
     ensures got { λ r. ⌜ Got (now (buffer .entry)) (now (buffer .exit)) r ⌝ }
-    ensures right { λ r. ⌜ HandsNext (now (chip .entry)) (take n (now (index .entry))) (now (key .entry)) (now (buffer .entry)) (now (buffer .exit)) r ⌝ }
+    ensures right { λ r. ⌜ Fetches (now (chip .entry)) (take n (now (index .entry))) (nextKey (now (key .entry)) (mapIn (now (chip .entry)))) (now (buffer .entry)) (now (buffer .exit)) r ⌝ }
 {
     match index::find(chip, index, n, key) {
         Found::At(i) => hand_key(chip, index, n, i + 1, buffer),

@@ -34,7 +34,7 @@ module _ {A : Type 0} where
   refuse-not n true a e = absurd (true≢false e)
   refuse-not n false a e = refl
 
-  refuse-other : (n k : ℕ) (t : Bool) (a : Answer A) → n ≢ k → refuse n t a ≡ refused k → a ≡ refused k
+  pub refuse-other : (n k : ℕ) (t : Bool) (a : Answer A) → n ≢ k → refuse n t a ≡ refused k → a ≡ refused k
   unfolding refuse
   refuse-other n k true a d e = absurd (d (let z : n ≡ k = cc in z))
   refuse-other n k false a d e = e
@@ -51,7 +51,7 @@ module _ {A : Type 0} where
   refuse-done n true a x e = absurd (let z : _≡_ {A = ℕ} 0 1 = cc in omega arith)
   refuse-done n false a x e = (refl, e)
 
-  done-is : (x y : A) → done x ≡ done y → x ≡ y
+  pub done-is : (x y : A) → done x ≡ done y → x ≡ y
   done-is x y e = cc
 
   -- what every call tests first answers 5, 7 or 8

@@ -8,7 +8,7 @@ use lib.ListN.{length, set, drop}
 use lib.Seq.{getD-take, getD-drop}
 use Rattle.page.specs.Page.{byte, Bytes}
 use Rattle.page.proofs.Grow.{grown, grown-more, grown-all}
-use Rattle.chip.specs.Chip.{pageAt, blankAt, written}
+use Rattle.chip.specs.Chip.{pageAt, blankAt}
 use Rattle.chip.specs.Play.{Writable}
 use Rattle.chip.proofs.Pages.{length-page, bytes-page}
 use Rattle.record.specs.Record.{sealPage}

@@ -49,14 +49,17 @@ module _ (f : ℕ → ℕ → ℕ) where
   byte-each (x ∷ xs) (y ∷ ys) zero h k = refl
   byte-each (x ∷ xs) (y ∷ ys) (suc i) h k = byte-each xs ys i (le-of-suc-le-suc h) (le-of-suc-le-suc k)
 
+-- of a byte of all ones the bitwise and is the other byte
+pub and-ones : (y : ℕ) → y < 256 → bitAnd 255 y ≡ y
+and-ones y small = and-comm 255 y ∙ and-mask y 8 ∙ mod-eq-of-lt small
+
 -- a blank page that is written holds what was given
 pub ands-blank : (pg ys : List ℕ) → length pg ≡ 256 → length ys ≡ 256 → blank pg ≡ true → Bytes ys → ands pg ys ≡ ys
 ands-blank pg ys h k b small =
     ext-getD 0 (ands pg ys) ys (length-each bitAnd pg ys ∙ h ∙ sym k)
     (λ i l.
     let m : i < 256 = omega (arith, length-each bitAnd pg ys) in
-    byte-each bitAnd pg ys i (omega arith) (omega arith) ∙ ap (λ (x : ℕ). bitAnd x (byte ys i)) (blank-at pg b i m) ∙ and-comm 255 (byte ys i)
-    ∙ and-mask (byte ys i) 8 ∙ mod-eq-of-lt (small i))
+    byte-each bitAnd pg ys i (omega arith) (omega arith) ∙ ap (λ (x : ℕ). bitAnd x (byte ys i)) (blank-at pg b i m) ∙ and-ones (byte ys i) (small i))
 
 or-grows : (x n : ℕ) → x ≤ bitOr x n
 or-grows x n = omega (arith, or-add-and x n, and-le-r x n)

@@ -1,13 +1,12 @@
 -- The lowest number of which a test does not hold. Assumes nothing.
-use mathlib.Core.Path.{_≡_, refl, sym, ap, _∙_}
+use mathlib.Core.Path.{_≡_, sym, ap, _∙_}
 use mathlib.Core.Bool.{Bool, true, false, cond}
 use mathlib.Core.List.{List}
-use Prim.Native.Nat.{ℕ, zero, suc, _+_, _≤_, _<_}
+use Prim.Native.Nat.{ℕ, zero, suc, _<_}
 use native.Mathlib.Decide.{ℕ-discrete}
 use native.Mathlib.Omega.{arith}
 use Rattle.page.specs.Page.{all, blank, sound}
 use Rattle.page.specs.Look.{agree, lowest, lookOf, Apart}
-use Rattle.page.specs.declared.Look.{Look}
 use Rattle.page.specs.declared.Look.the-variants.{Blank, Sound, Spoilt}
 use Rattle.page.proofs.All.{all-fails}
 

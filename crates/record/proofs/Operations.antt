@@ -11,7 +11,7 @@ use Rattle.page.specs.Page.{sound, blank, ors}
 use Rattle.page.proofs.Cut.{blank-not-sound, sound-not-blank, sound-same}
 use Rattle.chip.specs.Chip.{Power, goes, stays, pageAt, blankAt, erased, written}
 use Rattle.chip.specs.Play.{Writable}
-use Rattle.chip.proofs.Pages.{written-whole, written-cut, written-else, erased-whole, erased-else}
+use Rattle.chip.proofs.Pages.{written-whole, written-cut, written-else, erased-else}
 use Rattle.record.specs.Record.{Rec, Proper, recordPage, sealPage, recOf, recAt}
 use Rattle.record.proofs.Trip.{record-sound, record-says, seal-sound, seal-says}
 
@@ -57,19 +57,13 @@ module _ (noise : List ℕ) (p : ℕ) (new c : List ℕ) (w : Writable p new c) 
   unfolding blankAt
   write-blank-else t q ne = ap blank (written-else noise p new c w t q ne)
 
--- of a record: the record; cut, the record or nothing
+-- of a record, cut: the record or nothing
 module _ (noise : List ℕ) (p : ℕ) (r : Rec) (f : Proper r) (c : List ℕ) (w : Writable p (recordPage r) c) where
-  pub record-write-says : recAt (written stays noise p (recordPage r) c) p ≡ some r
-  record-write-says = write-says noise p (recordPage r) c w ∙ record-says r f
-
   pub record-cut-says : (recAt (written goes noise p (recordPage r) c) p ≡ some r) ⊎ (recAt (written goes noise p (recordPage r) c) p ≡ none)
   record-cut-says = rw (record-says r f) at (cut-says noise p (recordPage r) c w (record-sound r f))
 
--- of a seal: nothing, whole or cut
+-- of a seal, cut: nothing
 module _ (noise : List ℕ) (p : ℕ) (c : List ℕ) (w : Writable p sealPage c) where
-  pub seal-write-says : recAt (written stays noise p sealPage c) p ≡ none
-  seal-write-says = write-says noise p sealPage c w ∙ seal-says
-
   pub seal-cut-says : recAt (written goes noise p sealPage c) p ≡ none
   seal-cut-says = go (cut-says noise p sealPage c w seal-sound)
     where
@@ -77,13 +71,9 @@ module _ (noise : List ℕ) (p : ℕ) (c : List ℕ) (w : Writable p sealPage c)
       go (inl e) = e ∙ seal-says
       go (inr e) = e
 
--- ---- AN ERASE. Of a cut one nothing is said of the pages in its block
+-- ---- AN ERASE, whole or cut: nothing is said of the pages in its block
 module _ (noise : List ℕ) (b : ℕ) (c : List ℕ) (h : 4096 * b + 4096 ≤ length c) where
-  -- whole: the block's pages are blank (chip's `erased-whole`), and say nothing
-  pub erase-says : (q : ℕ) → q / 16 ≡ b → recAt (erased stays noise b c) q ≡ none
-  erase-says q e = blank-says (erased stays noise b c) q (erased-whole noise b c h q e)
-
-  -- whole or cut: the pages of other blocks are as they were
+  -- the pages of other blocks are as they were
   pub erase-says-else : (t : Power) (q : ℕ) → q / 16 ≢ b → recAt (erased t noise b c) q ≡ recAt c q
   unfolding recAt
   erase-says-else t q ne = ap recOf (erased-else noise b c h t q ne)

@@ -1,6 +1,7 @@
 -- Count and get: what the area says, and the answers of document 01. Assumes nothing.
 use mathlib.Core.Path.{_≡_, refl, sym, ap, _∙_, subst}
-use mathlib.Core.List.{List, []}
+use mathlib.Core.List.{List}
+use mathlib.Core.Option.{Option}
 use Prim.Native.Nat.{ℕ, zero, suc, _-_, _<_}
 use native.Mathlib.Omega.{arith}
 use lib.ListN.{length, take, drop, getD, length-drop}
@@ -56,6 +57,24 @@ module _ (c : List ℕ) (f : ℕ) (w : List ℕ) where
       subst (λ (x : Says ℕ). Counts x (Done n))
       (sym (count-due ∙ ap (λ (i : ℕ). due i a) (sym (t .due h) ∙ z))) (record { ends = ap (λ (i : ℕ). Done i) (sym m) })
 
+-- ---- WHAT IS HANDED OUT: the answer is by the number i that is due of the arguments, and else what is wanted, o, goes to the buffer
+module _ (c : List ℕ) (f : ℕ) (w b b′ : List ℕ) (i : ℕ) (o : Option (List ℕ)) (s : Says (ℕ × List ℕ)) (e : s ≡ due (lentNumber (lentOf c f w) i) (gotten b o)) where
+  module _ (k : ℕ) (t : Tested c f w i k) (h : Kept c f w) where
+    by-number : s ≡ due k (gotten b o)
+    by-number = e ∙ ap (λ (n : ℕ). due n (gotten b o)) (sym (t .due h))
+
+    pub got-refused : 0 < k → Gets b b s (Refused k)
+    got-refused l = subst (λ (x : Says (ℕ × List ℕ)). Gets b b x (Refused k)) (sym (by-number ∙ due-refused k _ l)) (record { ends = (refl, refl) })
+
+    -- the index is the part of the area from word 16 on
+    pub got-fetched : (n : ℕ) (r : Answer) → k ≡ 0 → n ≡ getD w 3 0 → Fetches c (take n (midOf 16 (length w - 16) w)) o b b′ r → Gets b b′ s r
+    got-fetched n r z q g =
+        let y : Checked c w = t .checked z in
+        let rest : midOf 16 (length w - 16) w ≡ drop 16 w = take-all (length w - 16) (drop 16 w) (omega (arith, length-drop 16 w)) in
+        subst (λ (x : Says (ℕ × List ℕ)). Gets b b′ x r) (sym (by-number ∙ ap (λ (n : ℕ). due n (gotten b o)) z))
+        (g .right (y .sized .some-blocks) (y .sized .whole)
+        (ap (take n) rest ∙ ap (λ (j : ℕ). take j (drop 16 w)) q ∙ h .holds (y .sized) (t .lit z) (t .marked z) .ready .rows))
+
 -- ---- GET
 module _ (c : List ℕ) (f : ℕ) (w key b b′ : List ℕ) where
   get-due : getAnswer (lentOf c f w) key b (mapIn c) ≡ due (lentNumber (lentOf c f w) (keyNumber key 0)) (gotten b (lookup key (mapIn c)))
@@ -63,21 +82,9 @@ module _ (c : List ℕ) (f : ℕ) (w key b b′ : List ℕ) where
       ap (lent (lentOf c f w)) (keyed-only key (gotten b (lookup key (mapIn c)))) ∙ lent-due (lentOf c f w) (keyNumber key 0) (gotten b (lookup key (mapIn c)))
 
   module _ (k : ℕ) (t : Tested c f w (keyNumber key 0) k) (h : Kept c f w) where
-    get-number : lentNumber (lentOf c f w) (keyNumber key 0) ≡ k
-    get-number = sym (t .due h)
-
     pub get-refused : 0 < k → Gets b b (getAnswer (lentOf c f w) key b (mapIn c)) (Refused k)
-    get-refused l =
-        subst (λ (s : Says (ℕ × List ℕ)). Gets b b s (Refused k))
-        (sym (get-due ∙ ap (λ (n : ℕ). due n (gotten b (lookup key (mapIn c)))) get-number ∙ due-refused k _ l)) (record { ends = (refl, refl) })
+    get-refused = got-refused c f w b b (keyNumber key 0) (lookup key (mapIn c)) _ get-due k t h
 
-    -- the index is the part of the area from word 16 on
-    pub get-fetched : (n : ℕ) (r : Answer) → k ≡ 0 → n ≡ getD w 3 0 → Fetches c (take n (midOf 16 (length w - 16) w)) key b b′ r
+    pub get-fetched : (n : ℕ) (r : Answer) → k ≡ 0 → n ≡ getD w 3 0 → Fetches c (take n (midOf 16 (length w - 16) w)) (lookup key (mapIn c)) b b′ r
         → Gets b b′ (getAnswer (lentOf c f w) key b (mapIn c)) r
-    get-fetched n r z e g =
-        let s : Checked c w = t .checked z in
-        let rest : midOf 16 (length w - 16) w ≡ drop 16 w = take-all (length w - 16) (drop 16 w) (omega (arith, length-drop 16 w)) in
-        subst (λ (x : Says (ℕ × List ℕ)). Gets b b′ x r)
-        (sym (get-due ∙ ap (λ (i : ℕ). due i (gotten b (lookup key (mapIn c)))) (get-number ∙ z)))
-        (g .right (s .sized .some-blocks) (s .sized .whole)
-        (ap (take n) rest ∙ ap (λ (i : ℕ). take i (drop 16 w)) e ∙ h .holds (s .sized) (t .lit z) (t .marked z) .ready .rows))
+    get-fetched = got-fetched c f w b b′ (keyNumber key 0) (lookup key (mapIn c)) _ get-due k t h

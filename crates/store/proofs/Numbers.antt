@@ -3,7 +3,7 @@ use mathlib.Core.Path.{_≡_, refl, sym, _∙_, subst}
 use mathlib.Core.Logic.{_≢_}
 use mathlib.Core.List.{List}
 use mathlib.Core.Bool.{Bool, true, false, not, _&&_, _||_}
-use Prim.Native.Nat.{ℕ, _+_, _*_, _/_, _%_, _≤_, _<_}
+use Prim.Native.Nat.{ℕ, suc, _+_, _*_, _/_, _%_, _≤_, _<_}
 use native.Mathlib.Omega.{arith}
 use lib.Dec.{eqb, leb}
 use lib.ListN.{length, getD}
@@ -16,6 +16,7 @@ use Rattle.log.proofs.RingLaws.{next-le}
 use Rattle.store.specs.Ends.{blocksOf, Sized, Checked}
 use Rattle.store.specs.Calls.{mark, lentOf, Holds, number, lentNumber, keyNumber, putNumber, due, Tested}
 use Rattle.log.specs.Answers.{sizesTest}
+use Rattle.store.specs.declared.Answer.the-variants.{Done, Refused}
 
 -- ---- the lengths
 
@@ -192,10 +193,21 @@ module _ {A : Type 0} where
       go false true true = refl
       go false true false = refl
 
-  pub keyed-only : (k : List ℕ) (a : Says A) → keyed k a ≡ due (keyNumber k 0) a
+  -- one test, and one of the key alone
+  pub refuse-due : (n : ℕ) (t : Bool) (a : Says A) → refuse (suc n) t a ≡ due (number (suc n) t 0) a
   unfolding refuse
-  keyed-only k a = go (eqb (length k) 0 || leb 17 (length k))
-    where
-      go : (x : Bool) → refuse 1 x a ≡ due (number 1 x 0) a
-      go true = refl
-      go false = refl
+  refuse-due n true a = refl
+  refuse-due n false a = refl
+
+  pub keyed-only : (k : List ℕ) (a : Says A) → keyed k a ≡ due (keyNumber k 0) a
+  keyed-only k a = refuse-due 0 (eqb (length k) 0 || leb 17 (length k)) a
+
+-- ---- the answers of the code are told apart
+pub done-inj : (a b : ℕ) → Done a ≡ Done b → a ≡ b
+done-inj a b e = cc
+
+pub refused-inj : (a b : ℕ) → Refused a ≡ Refused b → a ≡ b
+refused-inj a b e = cc
+
+pub done≢refused : (a b : ℕ) → Done a ≡ Refused b → ⊥
+done≢refused a b e = let z : _≡_ {A = ℕ} 0 1 = cc in omega arith

@@ -4,7 +4,7 @@ use mathlib.Core.Logic.{inl, inr}
 use mathlib.Core.List.{List, []}
 use mathlib.Core.Option.{none, some}
 use mathlib.Core.Bool.{Bool, true, false, not, _&&_}
-use Prim.Native.Nat.{ℕ, suc, _+_, _-_, _*_, _/_, _≤_, _<_}
+use Prim.Native.Nat.{ℕ, _+_, _-_, _*_, _/_, _≤_, _<_}
 use native.Mathlib.Omega.{arith}
 use lib.Dec.{leb}
 use lib.ListN.{length, take, drop, getD, length-drop}
@@ -22,14 +22,14 @@ use Rattle.log.proofs.RingLaws.{ring-head}
 use Rattle.log.proofs.CallLaws.{call-map}
 use Rattle.log.proofs.CallCost.{Rest, call-short}
 use Rattle.store.specs.Ends.{blocksOf, Checked}
-use Rattle.store.specs.Calls.{mapIn, mark, lentOf, Kept, Store, number, lentNumber, keyNumber, putNumber, due, Tested, Came, Changes, Ended}
+use Rattle.store.specs.Calls.{mapIn, mark, lentOf, Kept, Store, lentNumber, keyNumber, putNumber, due, Tested, Came, Changes, Ended}
 use Rattle.store.specs.Changes.{denialIn, Alters, Runs}
 use Rattle.store.specs.declared.Answer.{Answer}
 use Rattle.store.specs.declared.Answer.the-variants.{Done, Refused}
 use Rattle.store.specs.declared.Change.{Change}
 use Rattle.store.specs.declared.Change.the-variants.{Made, Denied, Lost, Broken}
 use Rattle.store.proofs.Runs.{lent-same, lent-before}
-use Rattle.store.proofs.Numbers.{lent-due, keyed-due, keyed-only}
+use Rattle.store.proofs.Numbers.{lent-due, keyed-due, keyed-only, refuse-due}
 use Rattle.store.proofs.Gets.{map-rows, due-refused}
 use Rattle.store.proofs.Area.{downed, downed-0, downed-1, downed-2, downed-3, downed-16, back-long, back-index}
 use Rattle.store.proofs.Appends.{map-sorted, ready-count, alter-fits}
@@ -229,25 +229,20 @@ alters-at B h h₂ y y₂ n n₂ note key value noise c f ix c′ f′ ix′ r e
     (subst (λ (i : ℕ). Alters B h i n₂ note key value noise c f ix c′ f′ ix′ r) ey (subst (λ (i : ℕ). Alters B h y i note key value noise c f ix c′ f′ ix′ r) en a))
 
 -- ---- THE CALLS
-denial-due : {A : Type 0} (n : ℕ) (t : Bool) (a : Says A) → refuse (suc n) t a ≡ due (number (suc n) t 0) a
-unfolding refuse
-denial-due n true a = refl
-denial-due n false a = refl
-
 module _ (c : List ℕ) (f : ℕ) (w key : List ℕ) where
   -- the answers of document 01, by the numbers that are due
   put-due : (value : List ℕ) → putAnswer (lentOf c f w) key value (mapIn c)
       ≡ due (lentNumber (lentOf c f w) (putNumber key value)) (due (denialIn false key (mapIn c) (blocksOf c)) (done (alter key (some value) (mapIn c))))
   put-due value =
       ap (λ (a : Says (Map (List ℕ))). lent (lentOf c f w) (keyed key (refuse 1 (not (printed key)) (refuse 2 (leb 97 (length value)) a))))
-      (denial-due 2 (missing (lookup key (mapIn c)) && leb (room (blocksOf c)) (length (mapIn c))) (done (alter key (some value) (mapIn c))))
+      (refuse-due 2 (missing (lookup key (mapIn c)) && leb (room (blocksOf c)) (length (mapIn c))) (done (alter key (some value) (mapIn c))))
       ∙ ap (lent (lentOf c f w)) (keyed-due key value (due (denialIn false key (mapIn c) (blocksOf c)) (done (alter key (some value) (mapIn c)))))
       ∙ lent-due (lentOf c f w) (putNumber key value) (due (denialIn false key (mapIn c) (blocksOf c)) (done (alter key (some value) (mapIn c))))
 
   delete-due : deleteAnswer (lentOf c f w) key (mapIn c)
       ≡ due (lentNumber (lentOf c f w) (keyNumber key 0)) (due (denialIn true key (mapIn c) (blocksOf c)) (done (alter key none (mapIn c))))
   delete-due =
-      ap (λ (a : Says (Map (List ℕ))). lent (lentOf c f w) (keyed key a)) (denial-due 3 (missing (lookup key (mapIn c))) (done (alter key none (mapIn c))))
+      ap (λ (a : Says (Map (List ℕ))). lent (lentOf c f w) (keyed key a)) (refuse-due 3 (missing (lookup key (mapIn c))) (done (alter key none (mapIn c))))
       ∙ ap (lent (lentOf c f w)) (keyed-only key (due (denialIn true key (mapIn c) (blocksOf c)) (done (alter key none (mapIn c)))))
       ∙ lent-due (lentOf c f w) (keyNumber key 0) (due (denialIn true key (mapIn c) (blocksOf c)) (done (alter key none (mapIn c))))
 

@@ -129,7 +129,7 @@ module _ (v b : List ℕ) where
 
 -- ---- A VALUE IS FETCHED, by what the search found
 module _ (c ix : List ℕ) (n : ℕ) (k : Key) (f : Found) (within : Within n f) (finds : Ordered c (take n ix) → Finds (keysOf c (take n ix)) k f) where
-  pub fetches-missing : (b : List ℕ) (i a : ℕ) → f ≡ Missing i → a ≡ 4 → Fetches c (take n ix) k b b (Refused a)
+  pub fetches-missing : (b : List ℕ) (i a : ℕ) → f ≡ Missing i → a ≡ 4 → Fetches c (take n ix) (lookup k (mapIn c)) b b (Refused a)
   fetches-missing b i a e q =
       record {
         right = λ big size same.
@@ -143,14 +143,14 @@ module _ (c ix : List ℕ) (n : ℕ) (k : Key) (f : Found) (within : Within n f)
     at-entry = getD-take n ix i 0 (subst (Within n) e within) ∙ sym q
 
     -- an entry of the chip's table is a page of the chip
-    pub fetches-never : (b b′ : List ℕ) (r : Answer) → length c / 256 ≤ p → Fetches c (take n ix) k b b′ r
+    pub fetches-never : (b b′ : List ℕ) (r : Answer) → length c / 256 ≤ p → Fetches c (take n ix) (lookup k (mapIn c)) b b′ r
     fetches-never b b′ r l =
         record {
           right = λ big size same.
               absurd (omega (arith, at-entry, index-inside c (take n ix) big size same k i (subst (Finds (keysOf c (take n ix)) k) e (finds (index-ordered c (take n ix) big size same)))));
         }
 
-    pub fetches-value : (b b′ : List ℕ) (r : Answer) (v : List ℕ) → v ≡ valueAt c p → Gets b b′ (gotten b (some v)) r → Fetches c (take n ix) k b b′ r
+    pub fetches-value : (b b′ : List ℕ) (r : Answer) (v : List ℕ) → v ≡ valueAt c p → Gets b b′ (gotten b (some v)) r → Fetches c (take n ix) (lookup k (mapIn c)) b b′ r
     fetches-value b b′ r v w g =
         record {
           right = λ big size same.

@@ -1,15 +1,15 @@
 -- What the steps of start, get, count and format answer. Assumes nothing.
 use mathlib.Core.Path.{_≡_}
 use mathlib.Core.List.{List}
+use mathlib.Core.Option.{Option}
 use mathlib.Core.Bool.{Bool, true, false}
 use Prim.Native.Nat.{ℕ, _*_, _≤_, _<_}
 use lib.ListN.{length, take, drop, getD}
-use Rattle.log.specs.Map.{lookup}
 use Rattle.log.specs.Log.{pages}
 use Rattle.log.specs.Ring.{chipOf, tableAt, table, next, room}
 use Rattle.log.specs.Answers.{gotten}
 use Rattle.store.specs.Ends.{blocksOf}
-use Rattle.store.specs.Calls.{mapIn, mark, Gets}
+use Rattle.store.specs.Calls.{mark, Gets}
 use Rattle.store.specs.declared.Answer.{Answer}
 use Rattle.store.specs.declared.Answer.the-variants.{Done, Refused}
 
@@ -22,9 +22,9 @@ CountedBy w (Refused k) = Unit {0}
 pub record Counted (w : List ℕ) (r : Answer) : Type 0 where
   pub ends : CountedBy w r
 
--- what is fetched by the entries ps: where they are those of the chip's table, the key's value goes to the buffer
-pub record Fetches (c ps key b b′ : List ℕ) (r : Answer) : Type 0 where
-  pub right : 4 ≤ blocksOf c → length c ≡ 4096 * blocksOf c → ps ≡ pages (blocksOf c) (table (blocksOf c) (chipOf c)) → Gets b b′ (gotten b (lookup key (mapIn c))) r
+-- what is fetched by the entries ps: where they are those of the chip's table, what is wanted goes to the buffer, o, if there is any
+pub record Fetches (c ps : List ℕ) (o : Option (List ℕ)) (b b′ : List ℕ) (r : Answer) : Type 0 where
+  pub right : 4 ≤ blocksOf c → length c ≡ 4096 * blocksOf c → ps ≡ pages (blocksOf c) (table (blocksOf c) (chipOf c)) → Gets b b′ (gotten b o) r
 
 -- the area is ready for the head h: its words say the head, the next place and the number of keys, and the index has the rows of the table
 pub record ReadyFor (c : List ℕ) (h : ℕ) (w : List ℕ) : Type 0 where

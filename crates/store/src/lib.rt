@@ -9,11 +9,10 @@ ghost use mathlib.Core.Path.{_≡_};
 ghost use Prim.Native.Nat.{_+_, _-_, _*_, _/_, _≤_, _<_};
 ghost use lib.ListN.{length, getD, set, take};
 ghost use mathlib.Core.Bool.{true, false, not};
-ghost use mathlib.Core.List.{[]};
 ghost use mathlib.Core.Option.{some};
 ghost use Rattle.chip.specs.Chip.{blankAt};
 ghost use Rattle.chip.specs.Play.{Did};
-ghost use Rattle.record.specs.Record.{recordOf};
+ghost use Rattle.log.specs.Map.{lookup};
 ghost use Rattle.log.specs.Log.{pages};
 ghost use Rattle.log.specs.Ring.{chipOf, head, laterTest, ringTest, tableAt, nextTo, room, mostBlocks};
 ghost use Rattle.log.specs.Answers.{sizesTest, gotten};
@@ -21,7 +20,7 @@ ghost use Rattle.index.specs.Answers.{Within};
 ghost use Rattle.opening.specs.Ends.{Sane};
 ghost use Rattle.store.specs.Scan.{sealedBelow, blankFrom, Replays};
 ghost use Rattle.store.specs.Ends.{blocksOf, Sized, Checked, Keyed, ChangeWithin, Undenied, ChangeKept, Got};
-ghost use Rattle.store.specs.Calls.{keyNumber, putNumber, Tested, Gets, PutEnds, DeleteEnds, GetEnds, CountEnds, StartEnds, FormatEnds};
+ghost use Rattle.store.specs.Calls.{mapIn, keyNumber, putNumber, Tested, Gets, PutEnds, DeleteEnds, GetEnds, CountEnds, StartEnds, FormatEnds};
 ghost use Rattle.store.specs.Changes.{isMissing, denial, Appends, Alters, Runs};
 ghost use Rattle.store.specs.Reads.{Counted, Fetches, Readies, ClearsAll};
 
@@ -360,7 +359,7 @@ pub fn hand_out(bytes: &[u8], buffer: &mut [u8]) -> Answer
 fn fetch(chip: &[u8], index: &[u32], n: usize, key: &[u8], buffer: &mut [u8]) -> Answer
     requires { ⌜ n ≤ length (now index) ⌝ }
     ensures got { λ r. ⌜ Got (now (buffer .entry)) (now (buffer .exit)) r ⌝ }
-    ensures right { λ r. ⌜ Fetches (now (chip .entry)) (take n (now (index .entry))) (now (key .entry)) (now (buffer .entry)) (now (buffer .exit)) r ⌝ }
+    ensures right { λ r. ⌜ Fetches (now (chip .entry)) (take n (now (index .entry))) (lookup (now (key .entry)) (mapIn (now (chip .entry)))) (now (buffer .entry)) (now (buffer .exit)) r ⌝ }
 {
     match index::find(chip, index, n, key) {
         Found::At(i) => {
@@ -443,7 +442,7 @@ fn sealed_below(chip: &[u8], h: usize) -> bool
     true
 }
 
-// Whether the pages from p up to end are blank.
+// Whether the pages from this one up to end are blank.
 fn blank_from(chip: &[u8], from: usize, end: usize) -> bool
     requires { ⌜ (256 * end ≤ length (now chip)) × (from ≤ end) ⌝ }
     ensures { λ r. ⌜ r ≡ blankFrom (chipOf (now (chip .entry))) from (end - from) ⌝ }

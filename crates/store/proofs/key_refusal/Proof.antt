@@ -1,7 +1,6 @@
 -- `store::key_refusal` meets its contract. Assumes nothing.
 use native.Mathlib.Omega.{arith}
 use Rattle.store.proofs.Numbers.{key-none, key-long, key-fits}
-use borrow.Author.Needs.{needs}
 use Rattle.store.proofs.key_refusal.Statement.{statement}
 use Rattle.store.proofs.key_refusal.Tie as tie
 

@@ -2,7 +2,6 @@
 use mathlib.Core.Path.{refl}
 use native.Mathlib.Omega.{arith}
 use Rattle.survey.proofs.Counts.{see-first, see-later}
-use borrow.Author.Needs.{needs}
 use Rattle.survey.proofs.see_spoilt.Statement.{statement}
 use Rattle.survey.proofs.see_spoilt.Tie as tie
 

@@ -1,5 +1,5 @@
 -- `survey::start_seeing` meets its contract. Assumes nothing.
-use mathlib.Core.Path.{refl, sym, ap, _∙_, subst}
+use mathlib.Core.Path.{refl, ap, _∙_, subst}
 use native.Mathlib.Omega.{arith}
 use Rattle.store.specs.Calls.{Starts}
 use Rattle.survey.specs.Seen.{numbers}

@@ -1,7 +1,6 @@
 -- `survey::survey` meets its contract. The invariant: what is seen so far. Assumes nothing.
-use mathlib.Core.Path.{_≡_, ap, _∙_}
-use Prim.Native.Nat.{ℕ, _-_, _≤_}
-use native.Mathlib.Numerals.{add-one}
+use mathlib.Core.Path.{_≡_}
+use Prim.Native.Nat.{_-_, _≤_}
 use native.Mathlib.Omega.{arith}
 use Rattle.survey.specs.Seen.{seenOf, Small}
 use Rattle.survey.proofs.Counts.{seen-none, small-next, seen-next, seen-all}
