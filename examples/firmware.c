@@ -1,5 +1,6 @@
 /* A page of firmware to copy: settings and measurements of a float, and the power failing under a put.
- * On a float `chip` is the memory-mapped flash behind your driver; here it is an array, and the fault script plays the failure. */
+ * The library stores to the chip's bytes itself, so `chip` is memory: here an array, and the fault script plays the failure. A mapped flash takes no such
+ * stores, and a chip behind a driver is not supported yet. */
 #include <floatstore.h>
 #include <inttypes.h>
 #include <stdio.h>

@@ -1,26 +1,31 @@
 /* floatstore.h: a key-value store on a flash chip, safe against power failures. For C firmware.
  *
- * To its caller the store is a map: a key of 1 to 16 bytes (0x21 to 0x7E) has a value of 0 to 96 bytes, or none. Whatever a call was
- * doing when the power failed, after the next floatstore_start the map is the one before that call or the one after it.
+ * To its caller the store is a map: a key of 1 to 16 bytes (0x21 to 0x7E) has a value of 0 to 96 bytes, or none. Whatever a call but
+ * format was doing when the power failed, after the next floatstore_start the map is the one before that call or the one after it.
  * The library behind this header, libfloatstore.a, is proved: docs/STATEMENTS.md says sentence by sentence what.
  *
- * WHAT YOU LEND. The store has no memory of its own and calls nothing: no malloc, no clock, no interrupts.
+ * WHAT YOU LEND. The store has no memory of its own and calls nothing but memcpy and memset: no malloc, no clock, no interrupts.
  *   chip   the chip's bytes, chip_len = FLOATSTORE_CHIP_LEN(B) for B blocks, FLOATSTORE_MIN_BLOCKS <= B <= FLOATSTORE_MAX_BLOCKS.
  *          A blank chip (all bytes 0xFF) is a store with an empty map; nothing has to be written before its first start.
  *   work   memory for the store's index, work_len = FLOATSTORE_WORK_LEN(B) WORDS of 32 bits or more. Its content means nothing
- *          before a start, and is the store's from then on: lend the same words, unchanged, to each call until the next start.
+ *          before a start, and is the store's from then on: lend the same words, unchanged, to each call until the next start. Use
+ *          a chip through one area: a start on a second one makes the first stale, and a call on that may lose what was put.
  *   fuse   the fault script, one number; see below. On a float: let it point to UINT64_MAX and forget it.
  *   noise  4,096 bytes, looked at only when the script cuts an operation. On a float: any 4,096 bytes.
- * No two of the areas may overlap, and each pointer must be valid for its length; C can't check that, and neither can the
- * library. A pointer with a length of 0 must still not be null. Nothing else is asked of a caller: any lengths, any bytes on
- * the chip, any bytes in the work area are answered, with a refusal where they make no sense.
+ * No two of these may overlap, nor may a key, a value or a buffer overlap them or each other: the buffer of get and next is not
+ * the key that they are given. Each pointer must be valid for its length. C can't check that, and neither can the library. A
+ * pointer with a length of 0 must still not be null. Nothing else is asked of a caller: any lengths, any bytes on the chip and
+ * in the work area are answered. But an area is believed where its first word is 1 and its next three are in range, whoever wrote
+ * them: if no start did, or the area was changed since, a call does at most B erases and 16 B page writes, and writes blank pages
+ * only, but it may answer anything.
  *
  * WHAT A CALL ANSWERS. At least 0: it is done (get: the value's length; next: the key's; count: the number of keys; the others: 0).
  * Below 0: refused, minus a number of enum floatstore_refusal; of several that apply, the first of the order 5, 7, 8, 1, 2, 4, 6, 3.
  * A call refused with 1 to 6 has changed nothing.
  *
  * WHAT A POWER FAILURE LOOKS LIKE. The call that was under way answers -7, and so does every later call until a start. Of that
- * call you know after the start: its put or delete happened whole, or not at all. Ask with floatstore_get if it matters.
+ * call you know after the start: its put or delete happened whole, or not at all. Ask with floatstore_get if it matters. Of a
+ * format that was cut short you know only that it can be called again after a start, whatever that start answers.
  * On a real float the processor goes with the chip, nobody sees the -7, and life goes on at floatstore_start after the reboot.
  *
  * THE FAULT SCRIPT lets your tests play it: *fuse counts the erases and page writes to come.
@@ -85,7 +90,8 @@ struct floatstore_seen {
     uint64_t page, byte; /* if spoilt > 0: the first spoilt page, and the lowest byte (0 to 127) at which it and its copy disagree */
 };
 
-/* The same start, which reads every page and fills *seen where it is done; refused, it leaves *seen as it was. */
+/* The same start, which also looks at every page and fills *seen, where it is done and where it is refused with 8: a chip that is no store can be looked at.
+ * Refused with 5 or 7 it leaves *seen as it was. */
 int64_t floatstore_start_seeing(const uint8_t *chip, size_t chip_len, uint32_t *work, size_t work_len, const uint64_t *fuse, struct floatstore_seen *seen);
 
 /* The key has this value from now on, whether or not it had one. Its bytes must be 0x21 to 0x7E; the other calls take any, so that old keys can be found and removed. */

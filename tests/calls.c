@@ -195,9 +195,9 @@ static void million(void) {
     printf("one key put 1,000,000 times on 4 blocks: none refused, %u of them opened a block\n", erases);
 }
 
-static void saw(uint64_t blank, uint64_t sound, uint64_t spoilt, uint64_t page, uint64_t byte) {
+static void saw(int64_t answer, uint64_t blank, uint64_t sound, uint64_t spoilt, uint64_t page, uint64_t byte) {
     struct floatstore_seen s = {1, 2, 3, 4, 5};
-    IS(0, floatstore_start_seeing(chip, chip_len, work, work_len, &fuse, &s));
+    IS(answer, floatstore_start_seeing(chip, chip_len, work, work_len, &fuse, &s));
     IS(blank, s.blank);
     IS(sound, s.sound);
     IS(spoilt, s.spoilt);
@@ -205,27 +205,31 @@ static void saw(uint64_t blank, uint64_t sound, uint64_t spoilt, uint64_t page, 
     IS(byte, s.byte);
 }
 
-/* The start that says what it saw: pages of the three kinds, and the first spoilt one. */
+/* The start that says what it saw: pages of the three kinds, and the first spoilt one; also of a chip that it refuses with 8, and not with 5 or 7. */
 static void seeing(void) {
-    struct floatstore_seen s = {1, 2, 3, 4, 5};
+    const struct floatstore_seen before = {1, 2, 3, 4, 5};
+    struct floatstore_seen s = before;
     lend(4);
-    saw(64, 0, 0, 0, 0);
+    saw(0, 64, 0, 0, 0, 0);
     for (uint32_t i = 0; i < 5; i++) IS(0, put("a", 1, &i, 4));
-    saw(59, 5, 0, 0, 0);
+    saw(0, 59, 5, 0, 0, 0);
     IS(1, count());
     chip[256 * 3 + 128 + 40] ^= 1; /* the copy of byte 40 */
     chip[256 * 3 + 77] ^= 1;
     chip[256 * 63] = 0x7F; /* in the spare of the later rounds */
     chip[256 * 63 + 255] = 0x7F;
-    IS(-8, floatstore_start_seeing(chip, chip_len, work, work_len, &fuse, &s)); /* in the first round blank pages must be blank */
+    saw(-8, 58, 4, 2, 3, 40); /* in the first round blank pages must be blank */
+    IS(-8, count());
     chip[256 * 63] = chip[256 * 63 + 255] = 0xFF;
-    saw(59, 4, 1, 3, 40);
+    saw(0, 59, 4, 1, 3, 40);
     chip[256 * 1 + 127] ^= 4;
-    saw(59, 3, 2, 1, 127);
+    saw(0, 59, 3, 2, 1, 127);
+    memset(chip, 0, chip_len);
+    saw(-8, 0, 0, 64, 0, 0);
     fuse = 0;
     IS(-7, floatstore_start_seeing(chip, chip_len, work, work_len, &fuse, &s));
     IS(-5, floatstore_start_seeing(chip, chip_len - 1, work, work_len, &fuse, &s));
-    IS(15, s.blank + s.sound + s.spoilt + s.page + s.byte);
+    IS(0, memcmp(&s, &before, sizeof s));
 }
 
 /* The key after this one is `want`, and past it the buffer is as it was; a buffer of just its length will do, and one byte less is refused and left as it was. */

@@ -1,13 +1,18 @@
 #!/usr/bin/env python3
-"""model.py faults | pages | wild: what that program must write, computed from documents 01 and 03, request 7 and docs/FORMAT.md alone.
+"""model.py try_faults | try_history | try_limits | try_pages | try_wild: what that program must write, computed from documents 01 and 03,
+requests 7 and 9 and docs/FORMAT.md alone. The scripts of try_history and try_limits are read from their files stdin.
 
-An independent model of the page form, the payload's layout and the fault script.
+An independent model of the page form, the payload's layout, the fault script and the calls.
 """
+import os
 import sys
 
 
+FLIPPED = bytes(255 - x for x in range(256))
+
+
 def page_of(payload):
-    return payload + bytes(255 - x for x in payload)
+    return payload + payload.translate(FLIPPED)
 
 
 def record_page(kind, key, value):
@@ -20,7 +25,7 @@ def value_page(key, value):
 
 
 def sound(page):
-    return all(page[128 + i] == page[i] ^ 0xFF for i in range(128))
+    return page == page_of(page[:128])
 
 
 def ors(old, noise):
@@ -150,23 +155,37 @@ def page_at(chip, p):
     return bytes(chip[256 * p : 256 * p + 256])
 
 
-def map_of(chip):
-    """docs/FORMAT.md, section 4: the map that a chip of four blocks stands for; None where start answers 8."""
-    sealed = [page_at(chip, 16 * b + 15) != BLANK for b in range(4)]
-    h = next((h for h in range(1, 4) if sealed[h - 1] and not sealed[h]), 0)
+def head_of(chip):
+    """docs/FORMAT.md, section 4: the head of a chip; None where it is no ring."""
+    b = len(chip) // 4096
+    sealed = [page_at(chip, 16 * x + 15) != BLANK for x in range(b)]
+    h = next((h for h in range(1, b) if sealed[h - 1] and not sealed[h]), 0)
     first = all(sealed[:h]) and all(x == 255 for x in chip[4096 * (h + 1) :])
-    later = all(sealed[b] for b in range(4) if b not in (h, (h + 1) % 4))
-    if sealed[h] or not (first or later):
-        return None
-    store = {}
-    for p in [16 * ((h + k) % 4) + i for k in (2, 3, 4) for i in range(15)]:
+    later = all(sealed[x] for x in range(b) if x not in (h, (h + 1) % b))
+    return h if not sealed[h] and (first or later) else None
+
+
+def table_of(chip, h):
+    """For each key that has a value: the page of its newest record."""
+    b, table = len(chip) // 4096, {}
+    for p in [16 * ((h + k) % b) + i for k in range(2, b + 1) for i in range(15)]:
         page = page_at(chip, p)
-        key = page[16 : 16 + page[2]]
-        if says(page) == "a value":
-            store[key] = page[32 : 32 + page[3]]
-        elif says(page) == "a note":
-            store.pop(key, None)
-    return store if len(store) <= 16 else None
+        what, key = says(page), page[16 : 16 + page[2]]
+        if what == "a value":
+            table[key] = p
+        elif what == "a note":
+            table.pop(key, None)
+    return table
+
+
+def map_of(chip):
+    """The map that a chip stands for; None where start answers 8."""
+    h = head_of(chip)
+    table = {} if h is None else table_of(chip, h)
+    if h is None or len(table) > len(chip) // 512 - 16:
+        return None
+    pages = {key: page_at(chip, p) for key, p in table.items()}
+    return {key: page[32 : 32 + page[3]] for key, page in pages.items()}
 
 
 def put_refusal(store, key):
@@ -226,33 +245,51 @@ def try_chip(kind, tally, rng):
     read_all(store, tally, kind, 54)
 
 
+class Gone(Exception):
+    """The power."""
+
+
 class Area:
     """A chip with its work area, whatever stands in either: word 0 the mark, 1 the head, 2 its next place, 3 the number of keys, from 16 the index."""
 
-    def __init__(self):
-        self.work = [0] * 80
+    def __init__(self, chip=BLANK * 64, words=80):
+        self.chip, self.work, self.blocks = bytearray(chip), [0] * words, len(chip) // 4096
+        self.fuse, self.noise = 10**9, bytes(4096)
 
     def start_blank(self):
         self.chip = bytearray(BLANK * 64)
         self.work[:4] = [1, 0, 0, 0]
 
+    def operate(self, a, whole, cut):
+        """An erase or a write, of the bytes from a on; the fuse counts it."""
+        self.fuse -= 1
+        self.chip[a : a + len(whole)] = whole if self.fuse else cut
+        if not self.fuse:
+            raise Gone
+
+    def erase(self, b):
+        self.operate(4096 * b, BLANK * 16, self.noise)
+
     def write(self, p, page):
         """Whether page p was blank, and so could be written."""
         if page_at(self.chip, p) != BLANK:
             return False
-        self.chip[256 * p : 256 * p + 256] = page
+        self.operate(256 * p, page, ors(page, self.noise))
         return True
+
+    def room(self):
+        return 8 * (self.blocks - 2)
 
     def unready(self):
         mark, h, place, n = self.work[:4]
-        return 7 if mark == 2 else 8 if mark != 1 or h >= 4 or place > 15 or n > 16 else 0
+        return 7 if mark == 2 else 8 if mark != 1 or h >= self.blocks or place > 15 or n > self.room() else 0
 
     def find(self, key):
         """By binary search: whether the key is there, and where it stands or would; an entry that is no page ends the search."""
         lo, hi = 0, self.work[3]
         while lo < hi:
             mid = (lo + hi) // 2
-            if self.work[16 + mid] >= 64:
+            if self.work[16 + mid] >= 16 * self.blocks:
                 return False, lo
             page = page_at(self.chip, self.work[16 + mid])
             here = page[16 : 16 + min(page[2], 16)]
@@ -263,9 +300,9 @@ class Area:
 
     def open_next(self, h):
         """How many places of the new head are used; None where a page that must be written isn't blank."""
-        spare, oldest, k = (h + 1) % 4, (h + 2) % 4, 0
+        spare, oldest, k = (h + 1) % self.blocks, (h + 2) % self.blocks, 0
         if page_at(self.chip, 16 * oldest + 15) != BLANK:
-            self.chip[4096 * spare : 4096 * spare + 4096] = BLANK * 16
+            self.erase(spare)
         for q in range(16 * oldest, 16 * oldest + 15):
             page = page_at(self.chip, q)
             there, j = self.find(page[16 : 16 + page[2]]) if says(page) == "a value" else (False, 0)
@@ -281,11 +318,11 @@ class Area:
             return self.unready()
         _, h, place, n = self.work[:4]
         there, i = self.find(key)
-        if not there and (kind == 2 or n >= 16):
+        if not there and (kind == 2 or n >= self.room()):
             return 4 if kind == 2 else 3
         for _ in range(2):
             if place == 15:
-                place, h = self.open_next(h), (h + 1) % 4
+                place, h = self.open_next(h), (h + 1) % self.blocks
             if place is None:
                 return 8
         p = 16 * h + place
@@ -357,4 +394,185 @@ def wild():
     print("bytes of buffers changed past the value 0")
 
 
-{"faults": faults, "pages": pages, "wild": wild}[sys.argv[1]]()
+# ---- limits and history: a script of calls
+
+
+def script_of(program):
+    with open(os.path.join(os.path.dirname(__file__), "..", "crates", program, "stdin")) as f:
+        return f.read().splitlines()
+
+
+def spelt(word):
+    """v*97 is 97 times v; %7f is the byte 0x7F."""
+    if word[1:2] == "*":
+        return word[:1].encode() * int(word[2:])
+    first, *others = word.encode().split(b"%")
+    return first + b"".join(bytes([int(x[:2], 16)]) + x[2:] for x in others)
+
+
+class Store(Area):
+    """The calls, with document 01's refusals in their order; each answers (refusal, number)."""
+
+    def refused(self, starts=False):
+        b = self.blocks
+        if len(self.chip) != 4096 * b or not 4 <= b <= 4096 or len(self.work) < 16 * b + 16:
+            return 5
+        return 7 if self.fuse == 0 else 0 if starts else self.unready()
+
+    def key_refused(self, key):
+        return self.refused() or (0 if 1 <= len(key) <= 16 else 1)
+
+    def start(self):
+        if self.refused(starts=True):
+            return self.refused(starts=True)
+        h, self.work[0] = head_of(self.chip), 0
+        table = {} if h is None else table_of(self.chip, h)
+        if h is None or len(table) > self.room():
+            return 8
+        place = max((i + 1 for i in range(15) if page_at(self.chip, 16 * h + i) != BLANK), default=0)
+        self.work[:4] = [1, h, place, len(table)]
+        self.work[16 : 16 + len(table)] = [table[key] for key in sorted(table)]
+        return 0
+
+    def powered(self, call, *args):
+        """The call; where the power goes during it, 7 until the next start."""
+        try:
+            return call(*args)
+        except Gone:
+            self.work[0] = 2
+            return 7
+
+    def format(self):
+        if self.refused(starts=True) or self.work[0] == 2:
+            return self.refused(starts=True) or 7
+        self.work[0] = 0
+        return self.powered(lambda: [self.erase(b) for b in range(self.blocks)] and 0)
+
+    def put(self, key, value):
+        printed = all(0x21 <= x <= 0x7E for x in key)
+        refusal = self.key_refused(key) or (0 if printed else 1) or (2 if len(value) > 96 else 0)
+        return refusal or self.powered(self.change, 1, key, value)
+
+    def delete(self, key):
+        return self.key_refused(key) or self.powered(self.change, 2, key, b"")
+
+    def puts(self, key, n):
+        """The last thousand of n puts: with power that stays, what calls answer depends on the map alone."""
+        return max(self.put(key, str(i).encode()) for i in range(max(n - 1000, 0), n))
+
+    def count(self):
+        return self.refused(), self.work[3] if self.work else 0
+
+    def get(self, key, n):
+        """Also the buffer."""
+        there, i = (False, 0) if self.key_refused(key) else self.find(key)
+        page = page_at(self.chip, self.work[16 + i]) if there else BLANK
+        value = page[32 : 32 + page[3]] if there else b""
+        refusal = self.key_refused(key) or (4 if not there else 6 if n < len(value) else 0)
+        return refusal, len(value), ("" if refusal else value.decode()).ljust(n, ".")
+
+    def make(self, verb, words):
+        if verb in ("start", "format"):
+            return getattr(self, verb)()
+        return getattr(self, verb)(spelt(words[0]), *[int(x) if verb == "puts" else spelt(x) for x in words[1:]])
+
+
+NOISES = {"zeros": bytes(4096), "ones": b"\xff" * 4096, "mixed": bytes(i % 251 for i in range(4096))}
+
+
+def told(refusal, number):
+    return f"refused {refusal}" if refusal else f"answers {number}"
+
+
+def limits():
+    store = None
+    for line in script_of("try_limits"):
+        verb, *words = line.split(" ")
+        end = ""
+        if verb == "lend":
+            store = Store(bytes([int(words[1])]) * int(words[0]), int(words[2]))
+        elif verb == "fuse":
+            store.fuse = int(words[0])
+        elif verb == "noise":
+            store.noise = noise_named(words[0])
+        elif verb == "count":
+            end = ": " + told(*store.count())
+        elif verb == "get":
+            refusal, n, buffer = store.get(spelt(words[0]), int(words[1]))
+            end = f": {told(refusal, n)}, buffer '{buffer}'"
+        elif verb != "#":
+            refusal = store.make(verb, words)
+            end = f": refused {refusal}" if refusal else ": done"
+        print(line + end)
+
+
+def noise_named(name):
+    """The page that is forged, or kept at its place, is the one of "put a 2"."""
+    page = value_page(b"a", b"2")
+    return {**NOISES, "forged": 16 * page, "kept": BLANK + page + 14 * BLANK}[name]
+
+
+class History:
+    """The calls of a script and the map after each; what a cut leaves is told by the chip's bytes alone (map_of)."""
+
+    def __init__(self, lines):
+        self.calls, self.maps = [line.split(" ") for line in lines], [{}]
+        for verb, *words in self.calls:
+            after = dict(self.maps[-1])
+            if verb == "put":
+                after[words[0].encode()] = words[1].encode()
+            elif verb == "delete":
+                del after[words[0].encode()]
+            self.maps.append(after)
+
+    def cut(self, store, i, fuse, noise):
+        """Call i, cut at that operation: the chip that is left; None where it ends whole. The store then is as after the call."""
+        store.fuse, store.noise = fuse, noise
+        verb, *words = self.calls[i]
+        refusal = store.make(verb, words)
+        assert refusal in (0, 4, 7)
+        return bytes(store.chip) if refusal == 7 else None
+
+    def place(self, chip, i):
+        """Of which place the map is: i, before that call, or i + 1."""
+        found = map_of(chip)
+        return i if found == self.maps[i] else i + 1 if found == self.maps[i + 1] else None
+
+    def cuts(self, before, i, noise):
+        """The chips that the cuts of call i leave, one for each of its operations, made on that chip."""
+        for fuse in range(1, 100):
+            store = Store(before)
+            assert store.start() == 0
+            chip = self.cut(store, i, fuse, noise)
+            if chip is None:
+                return
+            yield chip
+
+    def whole(self):
+        """The chip before each call, where nothing is cut."""
+        store, chips = Store(), []
+        for i in range(len(self.calls)):
+            chips.append(bytes(store.chip))
+            assert self.cut(store, i, 1000, NOISES["zeros"]) is None
+        return chips
+
+
+def history():
+    past, names = History(script_of("try_history")), ["zeros", "ones", "mixed", "forged", "kept"]
+    before = past.whole()
+    first = {name: [(i, chip) for i in range(len(before)) for chip in past.cuts(before[i], i, noise_named(name))] for name in names}
+    for again in [None] + names:
+        for name in names:
+            tally = {"before": 0, "after": 0}
+            for i, chip in first[name]:
+                n = past.place(chip, i)
+                for left in [chip] if again is None else past.cuts(chip, i, noise_named(again)):
+                    m = past.place(left, i)
+                    assert m is not None and m >= n
+                    tally["before" if m == i else "after"] += 1
+            then = f", then {again}" if again else ""
+            print(f"noise {name}{then}: as before the call {tally['before']}, as after it {tally['after']}, wrong 0")
+
+
+PROGRAMS = {"try_faults": faults, "try_history": history, "try_limits": limits, "try_pages": pages, "try_wild": wild}
+PROGRAMS[sys.argv[1]]()

@@ -158,6 +158,7 @@ for i in $(seq 1 16); do tool put full.img "k$i" v 2>/dev/null || tool format fu
 fails 'refused (3)' put full.img k17 v
 if tool check zero.img >out 2>said; then complain "check of zero.img succeeded"; fi
 grep -q 'refused (8)' said || complain "check of zero.img says '$(cat said)'"
+grep -qx 'start    saw 0 blank, 0 sound and 64 spoilt pages; the first spoilt one is page 0, at byte 0' out || complain "check of zero.img shows '$(cat out)'"
 [ -e /dev/full ] && { tool help >/dev/null; if tool count a.img >/dev/full 2>said; then complain "a full disk is not noticed"; fi; }
 cmp -s a.img keep || complain "an error changed a.img"
 [ -z "$(ls -A | grep '\.img\.')" ] || complain "a half-written file was left: $(ls -A)"

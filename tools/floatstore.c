@@ -347,13 +347,15 @@ static void compare_readers(const struct reading *r) {
     printf("readers  the library and docs/FORMAT.md agree on all %zu keys\n", r->keys);
 }
 
-/* What the library's start saw of the pages. */
-static void print_seen(void) {
+/* What the library's start saw of the pages, also of a chip that it refuses. Answers what start answered. */
+static int64_t print_seen(void) {
     struct floatstore_seen seen;
-    done(image.name, floatstore_start_seeing(image.chip, image.len, image.work, image.words, &image.fuse, &seen));
+    int64_t answer = floatstore_start_seeing(image.chip, image.len, image.work, image.words, &image.fuse, &seen);
+    if (answer != -FLOATSTORE_NOT_STARTED) done(image.name, answer);
     printf("start    saw %" PRIu64 " blank, %" PRIu64 " sound and %" PRIu64 " spoilt pages", seen.blank, seen.sound, seen.spoilt);
     if (seen.spoilt > 0) printf("; the first spoilt one is page %" PRIu64 ", at byte %" PRIu64, seen.page, seen.byte);
     printf("\n");
+    return answer;
 }
 
 static void do_check(char **argv) {
@@ -365,12 +367,12 @@ static void do_check(char **argv) {
     printf("chip     %zu blocks, %zu pages, room for %zu keys\n", r.blocks, 16 * r.blocks, FLOATSTORE_ROOM(r.blocks));
     printf("pages    %zu blank, %zu live values, %zu older values, %zu notes, %zu seals, %zu spoilt, %zu other\n", r.of[BLANK], r.of[LIVE], r.of[OLD], r.of[NOTE], r.of[SEAL],
            r.of[SPOILT], r.of[OTHER]);
-    if (!r.is_ring) start(); /* and that is refused, in words */
+    if (!r.is_ring) done(image.name, print_seen()); /* and that is refused, in words */
     printf("ring     head: block %zu, its next place %zu; ", r.head, r.next);
     if (r.later) printf("spare: block %zu; oldest: block %zu; %zu blocks sealed\n", r.spare, r.oldest, sealed);
     else printf("first round, nothing erased yet; %zu blocks sealed, %zu unused\n", sealed, r.blocks - 1 - r.head);
     print_cuts(&r);
-    print_seen();
+    done(image.name, print_seen());
     printf("map      %" PRId64 " of %zu keys\n", count(), FLOATSTORE_ROOM(r.blocks));
     compare_readers(&r);
 }

@@ -17,11 +17,11 @@ module _ (d l : List ℕ) (i : ℕ) where
   clear-end q e = grown-all i _ d l e (length-replicate (length d) 255 ∙ sym q) (sym q)
 
 module _ (f : ℕ → ℕ → ℕ) (d s l : List ℕ) (i : ℕ) (long : length d ≤ length s) where
-  pub each-turn : i < length d → l ≡ grown i (each f d s) d → {v : ℕ} → v ≡ f (byte l i) (byte s i) → set l i v ≡ grown (i + 1) (each f d s) d
-  each-turn h e v =
+  pub each-turn : i < length d → l ≡ grown i (each f d s) d → (j v : ℕ) → v ≡ f (byte l i) (byte s j) → j ≡ i → set l i v ≡ grown (i + 1) (each f d s) d
+  each-turn h e j v w q =
       let n : length (each f d s) ≡ length d = length-each f d s in
       grown-more i _ d l _ e
-      (v ∙ ap (λ (x : ℕ). f x (byte s i)) (grown-ahead i _ d l e (omega arith)) ∙ sym (byte-each f d s i h (omega arith))) (omega arith) h
+      (w ∙ ap (λ (k : ℕ). f (byte l i) (byte s k)) q ∙ ap (λ (x : ℕ). f x (byte s i)) (grown-ahead i _ d l e (omega arith)) ∙ sym (byte-each f d s i h (omega arith))) (omega arith) h
 
   pub each-end : i ≡ length d → l ≡ grown i (each f d s) d → l ≡ each f d s
   each-end q e = grown-all i _ d l e (length-each f d s ∙ sym q) (sym q)

@@ -9,7 +9,7 @@ use lib.ListN.{length, take, drop, replicate, length-drop, length-replicate}
 use lib.Seq.{length-take-le}
 use lib.Bits.{bitOr, bitAnd}
 use borrow.Rule.Slice.PartMut.{putMid, midOf}
-use Rattle.page.specs.Page.{Bytes, each, ors, ands}
+use Rattle.page.specs.Page.{byte, Bytes, each, ors, ands}
 use Rattle.page.proofs.Cut.{length-each, and-ones, ands-blank}
 use Rattle.chip.specs.Chip.{Power, goes, stays, power, pageAt, blockAt, blankAt, news, splice, erased, written}
 use Rattle.chip.proofs.Splice.{part-back, part-out}
@@ -79,6 +79,11 @@ module _ (f p : ℕ) (noise new c xs : List ℕ) (h : 256 * p + 256 ≤ length c
       y ∙ ap (λ (l : List ℕ). ors l noise) (laid-new ∙ ands-blank (take 256 (drop (256 * p) c)) new (length-part (256 * p) 256 c h) k bl small) in
       rw (power-goes f e)
       (part-back (256 * p) 256 c ys (ap length y₂ ∙ length-each bitOr new noise ∙ k) ∙ ap (λ (l : List ℕ). splice c (256 * p) l) y₂)
+
+-- it is needed: over a byte of zeros the write would leave nothing of what was given, cut short or not
+pub over-zeros : ((pg new noise : List ℕ) → length pg ≡ length new → ors (ands pg new) noise ≡ ors new noise) → ⊥
+unfolding each
+over-zeros f = omega (arith, ap (λ (l : List ℕ). byte l 0) (f (0 ∷ []) (1 ∷ []) (0 ∷ []) refl))
 
 -- ---- an operation by what is left of the number: it was whole, or it was cut short
 

@@ -10,13 +10,22 @@ ghost use Rattle.page.specs.Page.{each};
 ghost use Rattle.page.specs.Look.{lookOf};
 ghost use Rattle.chip.specs.Chip.{pageAt, blankAt, turned, power, erased, written};
 
+// The bytes of page p.
+fn page_at(chip: &[u8], p: usize) -> &[u8]
+    requires { ⌜ 256 * p + 256 ≤ length (now chip) ⌝ }
+    ensures is { λ r. ⌜ now r ≡ pageAt (now (chip .entry)) p ⌝ }
+    ensures long { λ r. ⌜ length (now r) ≡ 256 ⌝ }
+{
+    let from = 256 * p;
+    &chip[from..from + 256]
+}
+
 // Whether page p is blank, so that it may be written.
 pub fn blank_at(chip: &[u8], p: usize) -> bool
     requires { ⌜ 256 * p + 256 ≤ length (now chip) ⌝ }
     ensures { λ r. ⌜ r ≡ blankAt (now (chip .entry)) p ⌝ }
 {
-    let from = 256 * p;
-    page::is_blank(&chip[from..from + 256])
+    page::is_blank(page_at(chip, p))
 }
 
 // What page p is: blank, sound or spoilt.
@@ -24,8 +33,7 @@ pub fn look_at(chip: &[u8], p: usize) -> Look
     requires { ⌜ 256 * p + 256 ≤ length (now chip) ⌝ }
     ensures { λ r. ⌜ r ≡ lookOf (pageAt (now (chip .entry)) p) ⌝ }
 {
-    let at = 256 * p;
-    page::look_at(&chip[at..at + 256])
+    page::look_at(page_at(chip, p))
 }
 
 // All bits become 1.

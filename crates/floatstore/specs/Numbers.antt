@@ -4,8 +4,8 @@ use Prim.Native.Nat.{ℕ}
 use lib.Dec.{ltb}
 use mathlib.Core.Bool.{cond}
 use lib.IntN.{ℤ, pos, negℤ}
-use Rattle.store.specs.declared.Answer.{Answer}
-use Rattle.store.specs.declared.Answer.the-variants.{Done, Refused}
+use Rattle.lent.specs.declared.Answer.{Answer}
+use Rattle.lent.specs.declared.Answer.the-variants.{Done, Refused}
 
 -- a number that an i64 holds. (Lengths and counts of keys are less by far)
 abbrev pub held : ℕ → ℕ

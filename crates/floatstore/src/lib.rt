@@ -1,11 +1,13 @@
 // The store for C (include/floatstore.h): the six calls, the next key, and a start that says what it saw, with answers as numbers. At least 0: done; below: minus the number of the refusal.
 // Each contract is that of the store's call, of the answer whose number is answered; specs/Numbers.antt says which number that is.
-use store::Answer;
+use lent::Answer;
 ghost use mathlib.Core.Path.{_≡_};
 ghost use Rattle.chip.specs.Play.{Did};
-ghost use Rattle.store.specs.Ends.{blocksOf, Got};
-ghost use Rattle.store.specs.Reads.{Counted};
-ghost use Rattle.store.specs.Calls.{PutEnds, DeleteEnds, GetEnds, CountEnds, StartEnds, FormatEnds};
+ghost use Rattle.lent.specs.Area.{blocksOf};
+ghost use Rattle.fetch.specs.Fetched.{Got, Counted, GetEnds, CountEnds};
+ghost use Rattle.change.specs.Changed.{PutEnds, DeleteEnds};
+ghost use Rattle.start.specs.Started.{StartEnds};
+ghost use Rattle.format.specs.Formatted.{FormatEnds};
 ghost use Rattle.keys.specs.Next.{NextEnds};
 ghost use Rattle.survey.specs.Seen.{Sees};
 ghost use Rattle.floatstore.specs.Numbers.{numberOf, held, Answers};
@@ -49,7 +51,7 @@ pub extern "C" fn floatstore_format(
     ensures did { λ r. ⌜ Did (blocksOf (now (chip .entry))) 0 (now (noise .entry)) (now (chip .entry)) (now (fuse .entry)) (now (chip .exit)) (now (fuse .exit)) ⌝ }
     ensures right { λ r. ⌜ Answers (FormatEnds (now (chip .entry)) (now (fuse .entry)) (now (work .entry)) (now (chip .exit)) (now (fuse .exit)) (now (work .exit))) r ⌝ }
 {
-    number(store::format(chip, work, fuse, noise))
+    number(format::format(chip, work, fuse, noise))
 }
 
 // Reads the chip and makes the store ready; the map is the one that was there. It writes nothing to the chip.
@@ -57,10 +59,10 @@ pub extern "C" fn floatstore_format(
 pub extern "C" fn floatstore_start(chip: &[u8], work: &mut [u32], fuse: &u64) -> i64
     ensures { λ r. ⌜ Answers (StartEnds (now (chip .entry)) (now (fuse .entry)) (now (work .entry)) (now (work .exit))) r ⌝ }
 {
-    number(store::start(chip, work, fuse))
+    number(start::start(chip, work, fuse))
 }
 
-// The same, and what it saw of the chip's pages; refused, the five numbers stay as they were.
+// The same; and, done or refused with 8, what it saw of the chip's pages. Refused with 5 or 7 it leaves the five numbers as they were.
 #[no_mangle]
 pub extern "C" fn floatstore_start_seeing(
     chip: &[u8],
@@ -85,7 +87,7 @@ pub extern "C" fn floatstore_put(
 ) -> i64
     ensures { λ r. ⌜ Answers (PutEnds (now (noise .entry)) (now (chip .entry)) (now (fuse .entry)) (now (work .entry)) (now (key .entry)) (now (value .entry)) (now (chip .exit)) (now (fuse .exit)) (now (work .exit))) r ⌝ }
 {
-    number(store::put(chip, work, fuse, noise, key, value))
+    number(change::put(chip, work, fuse, noise, key, value))
 }
 
 // The value's length; the value stands at the start of the buffer, and the rest of the buffer is unchanged.
@@ -99,7 +101,7 @@ pub extern "C" fn floatstore_get(
 ) -> i64
     ensures { λ r. ⌜ Answers (λ a. Got (now (buffer .entry)) (now (buffer .exit)) a × GetEnds (now (chip .entry)) (now (fuse .entry)) (now (work .entry)) (now (key .entry)) (now (buffer .entry)) (now (buffer .exit)) a) r ⌝ }
 {
-    number(store::get(chip, work, fuse, key, buffer))
+    number(fetch::get(chip, work, fuse, key, buffer))
 }
 
 // The key has no value any more.
@@ -113,7 +115,7 @@ pub extern "C" fn floatstore_delete(
 ) -> i64
     ensures { λ r. ⌜ Answers (DeleteEnds (now (noise .entry)) (now (chip .entry)) (now (fuse .entry)) (now (work .entry)) (now (key .entry)) (now (chip .exit)) (now (fuse .exit)) (now (work .exit))) r ⌝ }
 {
-    number(store::delete(chip, work, fuse, noise, key))
+    number(change::delete(chip, work, fuse, noise, key))
 }
 
 // How many keys have a value.
@@ -121,7 +123,7 @@ pub extern "C" fn floatstore_delete(
 pub extern "C" fn floatstore_count(chip: &[u8], work: &[u32], fuse: &u64) -> i64
     ensures { λ r. ⌜ Answers (λ a. Counted (now (work .entry)) a × CountEnds (now (chip .entry)) (now (fuse .entry)) (now (work .entry)) a) r ⌝ }
 {
-    number(store::count(chip, work, fuse))
+    number(fetch::count(chip, work, fuse))
 }
 
 // The next larger key that has a value; after none, the empty key, the first. Its length; the key stands at the start of the buffer, and the rest of the buffer is unchanged.

@@ -2,12 +2,12 @@
 use mathlib.Core.Path.{_≡_, refl, sym, ap, _∙_, subst}
 use mathlib.Core.Logic.{_≢_, inl, inr}
 use mathlib.Core.List.{List, [], _++_, append-nil}
-use mathlib.Core.Bool.{Bool, true, false, cond, _&&_, _||_, true≢false}
+use mathlib.Core.Bool.{Bool, true, false, cond, _&&_, true≢false}
 use Prim.Native.Nat.{ℕ, zero, suc, _+_, _-_, _*_, _/_, _≤_, _<_}
 use native.Mathlib.Omega.{arith}
 use lib.Dec.{eqb, leb}
 use lib.ListN.{length}
-use borrow.Author.Tests.{eq-eqb, ne-eqb, le-leb}
+use borrow.Author.Tests.{eq-eqb, ne-eqb, le-leb, not-false}
 use Rattle.chip.specs.Play.{Op, erases}
 use Rattle.chip.proofs.Plays.{did-length}
 use Rattle.record.specs.Record.{Rec, recordOf}
@@ -15,26 +15,59 @@ use Rattle.log.specs.Map.{Map}
 use Rattle.log.specs.Ring.{chipOf, head, Ring, ringTest, table, mapOf, room}
 use Rattle.log.specs.Call.{resting, Trace}
 use Rattle.log.specs.Wear.{erasesOf, missed}
-use Rattle.log.specs.Answers.{refuse, refused, done, putAnswer, deleteAnswer, startAnswer}
+use Rattle.log.specs.Answers.{refuse, refused, done, lent, putAnswer, getAnswer, deleteAnswer, countAnswer, startAnswer}
 use Rattle.log.specs.Answers.{Answer as Says}
 use Rattle.log.proofs.RingLaws.{ring-head, ring-test}
 use Rattle.log.proofs.Start.{blank-ring, blank-map}
-use Rattle.log.proofs.AnswerLaws.{refuse-done, put-no-9, delete-no-9}
+use Rattle.log.proofs.AnswerLaws.{refuse-done}
 use Rattle.log.proofs.WearCall.{Worn, worn-blank, worn-dark, worn-call, worn-even, worn-few}
-use Rattle.store.specs.Ends.{blocksOf, Sized}
-use Rattle.store.specs.Calls.{mapIn, mark, lentOf, lentToStart, Holds, Kept, Store, ChangesBy, Ended, StartsBy, PutEnds, DeleteEnds, StartEnds, Came}
-use Rattle.store.specs.declared.Answer.{Answer}
-use Rattle.store.specs.declared.Answer.the-variants.{Done, Refused}
-use Rattle.store.proofs.Gets.{map-rows}
-use Rattle.store.proofs.Numbers.{sizes-hold, refused-inj, done≢refused}
-use Rattle.histories.specs.History.{Phase, off, on, started, failed, counted, History, Fresh, begin, found, dark, start, put, delete, get, count, next, ToldBy, Tells}
+use Rattle.lent.specs.Area.{blocksOf, Sized, mapIn, mark, lentOf, lentToStart, Holds, Kept, Store}
+use Rattle.fetch.specs.Fetched.{Gets, Counts, GetEnds, CountEnds}
+use Rattle.change.specs.Changed.{ChangesBy, Ended, PutEnds, DeleteEnds, Came}
+use Rattle.start.specs.Started.{StartsBy, StartEnds}
+use Rattle.lent.specs.declared.Answer.{Answer}
+use Rattle.lent.specs.declared.Answer.the-variants.{Done, Refused}
+use Rattle.lent.proofs.Held.{map-rows}
+use Rattle.lent.proofs.Numbers.{sizes-hold, sizes-sized}
+use Rattle.keys.specs.Next.{nextAnswer, NextEnds}
+use Rattle.histories.specs.History.{Phase, off, on, started, failed, counted, History, Fresh, begin, found, dark, lend, start, put, delete, get, count, next, lentOn, ToldBy, Tells}
+
+-- ---- WHILE THE STORE IS ON: the sizes are allowed; and where there is power, the area is ready, and says what is true of the chip
+pub record Tends (c : List ℕ) (f : ℕ) (w : List ℕ) : Type 0 where
+  pub sized : Sized c w
+  pub lit : 0 < f → (mark w ≡ 1) × Holds c w
+
+abbrev Tended : Phase → List ℕ → Type 0
+Tended off c = Unit {0}
+Tended (on noise f w) c = Tends c f w
+
+-- so the area is as start and the calls since left it
+pub tends-kept : (c : List ℕ) (f : ℕ) (w : List ℕ) → Tends c f w → Kept c f w
+tends-kept c f w t = record { holds = λ _ l _. t .lit l .1 }
+
+-- and what the code finds in the area is what the phase says
+lent-on : {A : Type 0} (c : List ℕ) (f : ℕ) (w : List ℕ) (a : Says A) → Tends c f w → lent (lentOf c f w) a ≡ lent (lentOn c f w) a
+unfolding refuse
+lent-on c f w a t = go f refl
+  where
+    go : (g : ℕ) → f ≡ g → lent (lentOf c g w) a ≡ lent (lentOn c g w) a
+    go zero e = refl
+    go (suc g) e =
+        let m : mark w ≡ 1 = t .lit (omega arith) .0 in
+        rw (ne-eqb (suc g) 0 (λ e. omega arith), ne-eqb (mark w) 2 (λ e. omega arith), eq-eqb (mark w) 1 m)
+
+-- chip and area keep their lengths
+pub sized-after : (c w c′ w′ : List ℕ) → Sized c w → length c′ ≡ length c → length w′ ≡ length w → Sized c′ w′
+sized-after c w c′ w′ s ec ew =
+    let b : blocksOf c′ ≡ blocksOf c = ap (λ (i : ℕ). i / 4096) ec in
+    record {
+      whole = omega (arith, s .whole, ec, b);
+      some-blocks = omega (arith, s .some-blocks, b);
+      few-blocks = omega (arith, s .few-blocks, b);
+      long = omega (arith, s .long, b, ew);
+    }
 
 module _ (B : ℕ) (big : 4 ≤ B) where
-  -- the area is as start and the calls since left it
-  abbrev Tended : Phase → List ℕ → Type 0
-  Tended off c = Unit {0}
-  Tended (on noise f w) c = Kept c f w
-
   -- WHAT HOLDS AFTER EVERY HISTORY, and of wear where F holds: where it began with a blank chip
   pub record Lives (F : Type 0) (s : Phase) (c : List ℕ) (n q : ℕ) (ops : List Op) : Type 0 where
     pub size : length c ≡ 4096 * B
@@ -62,7 +95,7 @@ module _ (B : ℕ) (big : 4 ≤ B) where
       go true x = refl
       go false x = refl
 
-  goes-dark : (f f′ : ℕ) → 0 < f → f′ ≡ 0 → failed f f′ ≡ 1
+  pub goes-dark : (f f′ : ℕ) → 0 < f → f′ ≡ 0 → failed f f′ ≡ 1
   goes-dark f f′ l e = rw (le-leb 1 f l, eq-eqb f′ 0 e)
 
   -- ---- A PUT OR A DELETE
@@ -82,8 +115,11 @@ module _ (B : ℕ) (big : 4 ≤ B) where
     -- 0 < f where document 01 does not refuse with 7
     pub step-lives : (s : Says (Map (List ℕ))) (r : Answer) (e : Ended x noise c f w c′ f′ w′ s r) → ((m : Map (List ℕ)) → s ≡ done m → 0 < f)
         → Lives F (on noise f w) c n q ops → Lives F (on noise f′ w′) c′ (n + counted f f′ r) (q + failed f f′) (ops ++ e .did .ops)
-    step-lives s r e lit y = go s refl (e .right (y .tended) .ends)
+    step-lives s r e lit y = go s refl (e .right (tends-kept c f w (y .tended)) .ends)
       where
+        fits : Sized c′ w′
+        fits = sized-after c w c′ w′ (y .tended .sized) (did-length (e .did)) (e .size)
+
         sized : length c′ ≡ 4096 * B
         sized = did-length (e .did) ∙ y .size
 
@@ -96,7 +132,7 @@ module _ (B : ℕ) (big : 4 ≤ B) where
             record {
               size = sized;
               store = subst Store (sym ec) (y .store);
-              tended = subst (λ (g : ℕ). Kept c′ g w′) (sym ef) (subst (Kept c′ f) (sym ew) (subst (λ (l : List ℕ). Kept l f w) (sym ec) (y .tended)));
+              tended = subst (λ (g : ℕ). Tends c′ g w′) (sym ef) (subst (Tends c′ f) (sym ew) (subst (λ (l : List ℕ). Tends l f w) (sym ec) (y .tended)));
               worn = λ i.
                   subst (λ (l : List ℕ). Worn B (n + counted f f′ r) (q + failed f f′) (ops ++ e .did .ops) (chipOf l)) (sym ec)
                   (subst (λ (i : ℕ). Worn B i (q + failed f f′) (ops ++ e .did .ops) (chipOf c)) (sym a)
@@ -109,7 +145,7 @@ module _ (B : ℕ) (big : 4 ≤ B) where
             record {
               size = sized;
               store = k .store;
-              tended = record { holds = λ _ _ _. holds };
+              tended = record { sized = fits; lit = λ _. (marked, holds) };
               worn = λ i.
                   subst (λ (i : ℕ). Worn B i (q + failed f f′) (ops ++ e .did .ops) (chipOf c′)) a
                   (subst (λ (i : ℕ). Worn B (suc n) i (ops ++ e .did .ops) (chipOf c′)) b (step-worn true (e .did .ops) m y i k));
@@ -121,7 +157,7 @@ module _ (B : ℕ) (big : 4 ≤ B) where
             record {
               size = sized;
               store = k .store;
-              tended = record { holds = λ _ l _. absurd (omega arith) };
+              tended = record { sized = fits; lit = λ l. absurd (omega arith) };
               worn = λ i.
                   subst (λ (i : ℕ). Worn B i (q + failed f f′) (ops ++ e .did .ops) (chipOf c′)) a
                   (subst (λ (i : ℕ). Worn B (suc n) i (ops ++ e .did .ops) (chipOf c′)) b (step-worn false (e .did .ops) m y i k));
@@ -137,17 +173,47 @@ module _ (B : ℕ) (big : 4 ≤ B) where
         go (done m) (inr (er, gone, marked, k)) = inr (er, gone, k .map)
 
   -- ---- an answer that is done comes with power
-  lit-by : {A : Type 0} (f : ℕ) (t u : Bool) (a : Says A) (m : A) → refuse 5 t (refuse 7 (eqb f 0 || u) a) ≡ done m → 0 < f
-  lit-by f t u a m e = go f (refuse-done 7 (eqb f 0 || u) a m (refuse-done 5 t (refuse 7 (eqb f 0 || u) a) m e .1) .0)
+  pub lit-on : (f : ℕ) (w c : List ℕ) (a : Says (Map (List ℕ))) (m : Map (List ℕ)) → lent (lentOn c f w) a ≡ done m → 0 < f
+  lit-on f w c a m e = go f (refuse-done 7 (eqb f 0) _ m (refuse-done 5 _ _ m e .1) .0)
     where
-      go : (f : ℕ) → (eqb f 0 || u) ≡ false → 0 < f
+      go : (g : ℕ) → eqb g 0 ≡ false → 0 < g
       go zero z = absurd (true≢false z)
-      go (suc f) z = omega arith
+      go (suc g) z = omega arith
 
   -- ---- A START
-  kept-by : (c : List ℕ) (f : ℕ) (w w′ : List ℕ) (s : Says (Map (List ℕ))) (r : Answer) (noise : List ℕ) → StartsBy c w w′ s r → Tended (started noise f w′ r) c
-  kept-by c f w w′ (refused k) r noise (er, x, y) = subst (λ (z : Answer). Tended (started noise f w′ z) c) (sym er) tt
-  kept-by c f w w′ (done m) r noise (er, marked, holds) = subst (λ (z : Answer). Tended (started noise f w′ z) c) (sym er) (record { holds = λ _ _ _. holds })
+  module _ (s : Phase) (noise c : List ℕ) (f : ℕ) (w w′ : List ℕ) where
+    -- it is done only where the sizes are allowed
+    start-sized : (m : Map (List ℕ)) → startAnswer (lentToStart c f w) (chipOf c) ≡ done m → Sized c w
+    start-sized m e = sizes-sized c w (not-false _ (refuse-done 5 _ _ m e .0))
+
+    tended-by : (a : Says (Map (List ℕ))) (r : Answer) → ((m : Map (List ℕ)) → a ≡ done m → Sized c w) → length w′ ≡ length w → StartsBy c w w′ a r → Tended s c
+        → Tended (started s noise f w′ r) c
+    tended-by (refused k) r z l (er, x, y) t = subst (λ (a : Answer). Tended (started s noise f w′ a) c) (sym er) (go (eqb k 8))
+      where
+        go : (b : Bool) → Tended (cond b off s) c
+        go true = tt
+        go false = t
+    tended-by (done m) r z l (er, marked, holds) t =
+        subst (λ (a : Answer). Tended (started s noise f w′ a) c) (sym er)
+        (record { sized = sized-after c w c w′ (z m refl) refl l; lit = λ _. (marked, holds) })
+
+  -- ---- ANOTHER SCRIPT
+  module _ (f f′ : ℕ) where
+    -- power that is there was there before
+    lit-before : (f ≡ 0 → f′ ≡ 0) → 0 < f′ → 0 < f
+    lit-before z l = go f refl
+      where
+        go : (g : ℕ) → f ≡ g → 0 < f
+        go zero e = absurd (omega (arith, z e))
+        go (suc g) e = omega arith
+
+    -- where it fails between two calls, that is counted
+    worn-lent : (n q : ℕ) (ops : List Op) (c : List ℕ) → Worn B n q ops (chipOf c) → Worn B n (q + failed f f′) ops (chipOf c)
+    worn-lent n q ops c y = go (leb 1 f && eqb f′ 0)
+      where
+        go : (b : Bool) → Worn B n (q + cond b 1 0) ops (chipOf c)
+        go true = let e : suc q ≡ q + 1 = omega arith in subst (λ (i : ℕ). Worn B n i ops (chipOf c)) e (worn-dark B big n q ops (chipOf c) y)
+        go false = let e : q ≡ q + 0 = omega arith in subst (λ (i : ℕ). Worn B n i ops (chipOf c)) e y
 
   -- ---- EVERY HISTORY
   pub lives : {s : Phase} {c : List ℕ} {n q : ℕ} {ops : List Op} (h : History B s c n q ops) → Lives (Fresh h) s c n q ops
@@ -167,30 +233,31 @@ module _ (B : ℕ) (big : 4 ≤ B) where
   lives (dark {s} {c} {n} {q} {ops} h) =
       let y : Lives (Fresh h) s c n q ops = lives h in
       record { size = y .size; store = y .store; tended = tt; worn = λ i. worn-dark B big n q ops (chipOf c) (y .worn i) }
+  lives (lend {noise} {f} {w} {c} {n} {q} {ops} noise′ f′ z h) =
+      let y : Lives (Fresh h) (on noise f w) c n q ops = lives h in
+      record {
+        size = y .size;
+        store = y .store;
+        tended = record { sized = y .tended .sized; lit = λ l. y .tended .lit (lit-before f f′ (λ e. omega (arith, z e)) l) };
+        worn = λ i. worn-lent f f′ n q ops c (y .worn i);
+      }
   lives (start {s} {c} {n} {q} {ops} noise f w w′ r e h) =
       let y : Lives (Fresh h) s c n q ops = lives h in
-      record { size = y .size; store = y .store; tended = kept-by c f w w′ (startAnswer (lentToStart c f w) (chipOf c)) r noise (e .ends); worn = y .worn }
+      record {
+        size = y .size;
+        store = y .store;
+        tended = tended-by s noise c f w w′ (startAnswer (lentToStart c f w) (chipOf c)) r (start-sized s noise c f w w′) (e .size) (e .ends) (y .tended);
+        worn = y .worn;
+      }
   lives (put {noise} {f} {w} {c} {n} {q} {ops} key value c′ f′ w′ r e h) =
-      step-lives (Fresh h) (recordOf false key value) noise c f w c′ f′ w′ n q ops (putAnswer (lentOf c f w) key value (mapIn c)) r e (λ m d. lit-by f _ _ _ m d) (lives h)
+      step-lives (Fresh h) (recordOf false key value) noise c f w c′ f′ w′ n q ops (putAnswer (lentOf c f w) key value (mapIn c)) r e
+      (λ m d. lit-on f w c _ m (sym (lent-on c f w _ (lives h .tended)) ∙ d)) (lives h)
   lives (delete {noise} {f} {w} {c} {n} {q} {ops} key c′ f′ w′ r e h) =
-      step-lives (Fresh h) (recordOf true key []) noise c f w c′ f′ w′ n q ops (deleteAnswer (lentOf c f w) key (mapIn c)) r e (λ m d. lit-by f _ _ _ m d) (lives h)
+      step-lives (Fresh h) (recordOf true key []) noise c f w c′ f′ w′ n q ops (deleteAnswer (lentOf c f w) key (mapIn c)) r e
+      (λ m d. lit-on f w c _ m (sym (lent-on c f w _ (lives h .tended)) ∙ d)) (lives h)
   lives (get key b b′ r e h) = lives h
   lives (count r e h) = lives h
   lives (next key b b′ r e h) = lives h
-
-  -- THEOREM RIGHT, AND CRASH-PROOF: after every history the chip's map is one that the documents allow, and every answer was document 01's
-  pub right : {s : Phase} {c : List ℕ} {n q : ℕ} {ops : List Op} (h : History B s c n q ops) → Tells h (mapIn c)
-  right (begin c z f) = subst (λ (i : ℕ). mapOf i (chipOf c) ≡ []) (sym (blocks-are c z)) (blank-map B big (chipOf c) f)
-  right (found c z s) = refl
-  right (dark h) = right h
-  right (start noise f w w′ r e h) = right h
-  right (put {noise} {f} {w} {c} {n} {q} {ops} key value c′ f′ w′ r e h) =
-      (mapIn c, right h, step-told (Fresh h) (recordOf false key value) noise c f w c′ f′ w′ n q ops (putAnswer (lentOf c f w) key value (mapIn c)) r e (lives h .tended))
-  right (delete {noise} {f} {w} {c} {n} {q} {ops} key c′ f′ w′ r e h) =
-      (mapIn c, right h, step-told (Fresh h) (recordOf true key []) noise c f w c′ f′ w′ n q ops (deleteAnswer (lentOf c f w) key (mapIn c)) r e (lives h .tended))
-  right (get key b b′ r e h) = (right h, e (lives h .tended))
-  right (count r e h) = (right h, e (lives h .tended))
-  right (next key b b′ r e h) = (right h, e (lives h .tended))
 
   module _ {s : Phase} {c : List ℕ} {n q : ℕ} {ops : List Op} (h : History B s c n q ops) where
     -- START ALWAYS SUCCEEDS, where the sizes are allowed and there is power: the map is the one that was there
@@ -208,6 +275,49 @@ module _ (B : ℕ) (big : 4 ≤ B) where
     pub start-done : (f : ℕ) (w w′ : List ℕ) (r : Answer) → Sized c w → 0 < f → StartEnds c f w w′ r → (r ≡ Done 0) × (mark w′ ≡ 1) × Holds c w′
     start-done f w w′ r z l e = subst (λ (t : Says (Map (List ℕ))). StartsBy c w w′ t r) (start-succeeds f w z l) (e .ends)
 
+  -- ---- WHAT EACH CALL ANSWERS, by the phase
+  module _ {noise : List ℕ} {f : ℕ} {w c : List ℕ} {n q : ℕ} {ops : List Op} (h : History B (on noise f w) c n q ops) where
+    pub tends : Tends c f w
+    tends = lives h .tended
+
+    pub kept : Kept c f w
+    kept = tends-kept c f w tends
+
+    module _ (key c′ : List ℕ) (f′ : ℕ) (w′ : List ℕ) (r : Answer) where
+      pub put-told : (value : List ℕ) → PutEnds noise c f w key value c′ f′ w′ r → ToldBy (putAnswer (lentOn c f w) key value (mapIn c)) f′ r (mapIn c) (mapIn c′)
+      put-told value e =
+          subst (λ (s : Says (Map (List ℕ))). ToldBy s f′ r (mapIn c) (mapIn c′)) (lent-on c f w _ tends)
+          (step-told (Fresh h) (recordOf false key value) noise c f w c′ f′ w′ n q ops (putAnswer (lentOf c f w) key value (mapIn c)) r e kept)
+
+      pub delete-told : DeleteEnds noise c f w key c′ f′ w′ r → ToldBy (deleteAnswer (lentOn c f w) key (mapIn c)) f′ r (mapIn c) (mapIn c′)
+      delete-told e =
+          subst (λ (s : Says (Map (List ℕ))). ToldBy s f′ r (mapIn c) (mapIn c′)) (lent-on c f w _ tends)
+          (step-told (Fresh h) (recordOf true key []) noise c f w c′ f′ w′ n q ops (deleteAnswer (lentOf c f w) key (mapIn c)) r e kept)
+
+    module _ (key b b′ : List ℕ) (r : Answer) where
+      pub get-told : GetEnds c f w key b b′ r → Gets b b′ (getAnswer (lentOn c f w) key b (mapIn c)) r
+      get-told e = subst (λ (s : Says (ℕ × List ℕ)). Gets b b′ s r) (lent-on c f w _ tends) (e kept)
+
+      pub next-told : NextEnds c f w key b b′ r → Gets b b′ (nextAnswer (lentOn c f w) key b (mapIn c)) r
+      next-told e = subst (λ (s : Says (ℕ × List ℕ)). Gets b b′ s r) (lent-on c f w _ tends) (e kept)
+
+    pub count-told : (r : Answer) → CountEnds c f w r → Counts (countAnswer (lentOn c f w) (mapIn c)) r
+    count-told r e = subst (λ (s : Says ℕ). Counts s r) (lent-on c f w _ tends) (e kept)
+
+  -- RIGHT, AND CRASH-PROOF: after every history the chip's map is one that the documents allow, and every answer was document 01's
+  pub right : {s : Phase} {c : List ℕ} {n q : ℕ} {ops : List Op} (h : History B s c n q ops) → Tells h (mapIn c)
+  right (begin c z f) = subst (λ (i : ℕ). mapOf i (chipOf c) ≡ []) (sym (blocks-are c z)) (blank-map B big (chipOf c) f)
+  right (found c z s) = refl
+  right (dark h) = right h
+  right (lend noise′ f′ z h) = right h
+  right (start noise f w w′ r e h) = (right h, λ z l. start-done h f w w′ r z l e .0)
+  right (put {noise} {f} {w} {c} key value c′ f′ w′ r e h) = (mapIn c, right h, put-told h key c′ f′ w′ r value e)
+  right (delete {noise} {f} {w} {c} key c′ f′ w′ r e h) = (mapIn c, right h, delete-told h key c′ f′ w′ r e)
+  right (get key b b′ r e h) = (right h, get-told h key b b′ r e)
+  right (count r e h) = (right h, count-told h r e)
+  right (next key b b′ r e h) = (right h, next-told h key b b′ r e)
+
+  module _ {s : Phase} {c : List ℕ} {n q : ℕ} {ops : List Op} (h : History B s c n q ops) where
     -- ---- THEOREM WEAR, of a history that began with a blank chip
     module _ (fresh : Fresh h) where
       -- even: the erases of any two blocks differ by at most 1 + q
@@ -221,21 +331,3 @@ module _ (B : ℕ) (big : 4 ≤ B) where
       -- document 03 asks for n / 4 + 2 q + B
       pub wear-asked : erases ops ≤ n / 4 + 2 * q + B
       wear-asked = omega (arith, wear-few)
-
-  -- ---- THEOREM NUMBERS: 9 is never answered, however many pages have been written
-  never-9 : (s : Says (Map (List ℕ))) (f′ : ℕ) (r : Answer) (m m′ : Map (List ℕ)) → s ≢ refused 9 → ToldBy s f′ r m m′ → r ≢ Refused 9
-  never-9 (refused k) f′ r m m′ d (er, em) e = d (ap (λ (i : ℕ). refused i) (refused-inj k 9 (sym er ∙ e)))
-  never-9 (done k) f′ r m m′ d (inl (er, em)) e = done≢refused 0 9 (sym er ∙ e)
-  never-9 (done k) f′ r m m′ d (inr (er, gone, em)) e = omega (arith, refused-inj 7 9 (sym er ∙ e))
-
-  pub put-never-9 : {noise : List ℕ} {f : ℕ} {w c : List ℕ} {n q : ℕ} {ops : List Op} (key value c′ : List ℕ) (f′ : ℕ) (w′ : List ℕ) (r : Answer)
-      → PutEnds noise c f w key value c′ f′ w′ r → History B (on noise f w) c n q ops → r ≢ Refused 9
-  put-never-9 {noise} {f} {w} {c} {n} {q} {ops} key value c′ f′ w′ r e h =
-      never-9 (putAnswer (lentOf c f w) key value (mapIn c)) f′ r (mapIn c) (mapIn c′) (put-no-9 (lentOf c f w) key value (mapIn c))
-      (step-told (Fresh h) (recordOf false key value) noise c f w c′ f′ w′ n q ops (putAnswer (lentOf c f w) key value (mapIn c)) r e (lives h .tended))
-
-  pub delete-never-9 : {noise : List ℕ} {f : ℕ} {w c : List ℕ} {n q : ℕ} {ops : List Op} (key c′ : List ℕ) (f′ : ℕ) (w′ : List ℕ) (r : Answer)
-      → DeleteEnds noise c f w key c′ f′ w′ r → History B (on noise f w) c n q ops → r ≢ Refused 9
-  delete-never-9 {noise} {f} {w} {c} {n} {q} {ops} key c′ f′ w′ r e h =
-      never-9 (deleteAnswer (lentOf c f w) key (mapIn c)) f′ r (mapIn c) (mapIn c′) (delete-no-9 (lentOf c f w) key (mapIn c))
-      (step-told (Fresh h) (recordOf true key []) noise c f w c′ f′ w′ n q ops (deleteAnswer (lentOf c f w) key (mapIn c)) r e (lives h .tended))

@@ -1,3 +1,6 @@
 pub mod Histories
 pub mod Walks
 pub mod Printed
+pub mod Answered
+pub mod Formatted
+pub mod Theorems

@@ -1,23 +1,23 @@
--- AFTER EVERY HISTORY THAT BEGAN WITH A BLANK CHIP EACH KEY CAN BE PRINTED (document 02, request 9): put takes no others, and nothing else makes a key. Assumes nothing.
+-- AFTER EVERY HISTORY THAT BEGAN WITH A BLANK CHIP EACH KEY CAN BE PRINTED (document 02, request 9): put takes no others, and nothing else makes a key.
+-- Assumes nothing.
 use mathlib.Core.Path.{_≡_, refl, sym, _∙_, subst}
 use mathlib.Core.Logic.{inl, inr}
 use mathlib.Core.List.{List, [], _∷_}
 use mathlib.Core.Option.{Option, none, some}
 use mathlib.Core.Bool.{true}
 use Prim.Native.Nat.{ℕ, _≤_}
-use borrow.Author.Tests.{not-false}
 use Rattle.chip.specs.Play.{Op}
 use Rattle.log.specs.Key.{Key, key≟}
 use Rattle.log.specs.Map.{Map, lookup, put, alter}
 use Rattle.log.specs.Answers.{Lent, printed, refused, done, putAnswer, deleteAnswer}
 use Rattle.log.specs.Answers.{Answer as Says}
 use Rattle.log.proofs.MapLaws.{some≢none, lookup-there, alter-cases}
-use Rattle.log.proofs.AnswerLaws.{refuse-done, done-is}
-use Rattle.store.specs.Calls.{mapIn, lentOf}
-use Rattle.store.specs.declared.Answer.{Answer}
+use Rattle.log.proofs.AnswerLaws.{put-done, delete-done}
+use Rattle.lent.specs.Area.{mapIn}
+use Rattle.lent.specs.declared.Answer.{Answer}
 use Rattle.keys.specs.Walk.{Has}
 use Rattle.histories.specs.History as history
-use Rattle.histories.specs.History.{Phase, History, Fresh, begin, found, dark, start, delete, get, count, next, ToldBy, Tells}
+use Rattle.histories.specs.History.{Phase, History, Fresh, begin, found, dark, lend, start, delete, get, count, next, lentOn, ToldBy, Tells}
 use Rattle.histories.proofs.Histories.{right}
 
 -- each key of the map can be printed
@@ -53,17 +53,10 @@ module _ (k : Key) (o : Option (List ℕ)) (good : (v : List ℕ) → o ≡ some
 -- ---- THE ANSWERS
 module _ (l : Lent) (k : Key) (m n : Map (List ℕ)) (h : Printed m) where
   put-printed : (v : List ℕ) → putAnswer l k v m ≡ done n → Printed n
-  put-printed v e =
-      let a = refuse-done 1 _ _ n (refuse-done 8 _ _ n (refuse-done 7 _ _ n (refuse-done 5 _ _ n e .1) .1) .1) in
-      let b = refuse-done 1 _ _ n (a .1) in
-      let d = refuse-done 3 _ _ n (refuse-done 2 _ _ n (b .1) .1) in
-      subst Printed (done-is (alter k (some v) m) n (d .1)) (printed-alter k (some v) (λ _ _. not-false _ (b .0)) m h)
+  put-printed v e = let d = put-done l k v m n e in subst Printed (d .2) (printed-alter k (some v) (λ _ _. d .0) m h)
 
   delete-printed : deleteAnswer l k m ≡ done n → Printed n
-  delete-printed e =
-      let a = refuse-done 1 _ _ n (refuse-done 8 _ _ n (refuse-done 7 _ _ n (refuse-done 5 _ _ n e .1) .1) .1) in
-      let d = refuse-done 4 _ _ n (a .1) in
-      subst Printed (done-is (alter k none m) n (d .1)) (printed-alter k none (λ v z. absurd (some≢none (sym z))) m h)
+  delete-printed e = subst Printed (delete-done l k m n e) (printed-alter k none (λ v z. absurd (some≢none (sym z))) m h)
 
 told-printed : (s : Says (Map (List ℕ))) (f′ : ℕ) (r : Answer) (m m′ : Map (List ℕ)) → Printed m → ((n : Map (List ℕ)) → s ≡ done n → Printed n) → ToldBy s f′ r m m′ → Printed m′
 told-printed (refused k) f′ r m m′ h g (er, em) = subst Printed (sym em) h
@@ -76,13 +69,14 @@ tells-printed : {B : ℕ} {s : Phase} {c : List ℕ} {n q : ℕ} {ops : List Op}
 tells-printed (begin c z f) y m e = subst Printed (sym e) tt
 tells-printed (found c z s) y m e = absurd y
 tells-printed (dark h) y m t = tells-printed h y m t
-tells-printed (start noise f w w′ r e h) y m t = tells-printed h y m t
+tells-printed (lend noise′ f′ z h) y m t = tells-printed h y m t
+tells-printed (start noise f w w′ r e h) y m (t, d) = tells-printed h y m t
 tells-printed (history.put {noise} {f} {w} {c} key value c′ f′ w′ r e h) y m (k, t, d) =
     let p : Printed k = tells-printed h y k t in
-    told-printed (putAnswer (lentOf c f w) key value k) f′ r k m p (λ n z. put-printed (lentOf c f w) key k n p value z) d
+    told-printed (putAnswer (lentOn c f w) key value k) f′ r k m p (λ n z. put-printed (lentOn c f w) key k n p value z) d
 tells-printed (delete {noise} {f} {w} {c} key c′ f′ w′ r e h) y m (k, t, d) =
     let p : Printed k = tells-printed h y k t in
-    told-printed (deleteAnswer (lentOf c f w) key k) f′ r k m p (λ n z. delete-printed (lentOf c f w) key k n p z) d
+    told-printed (deleteAnswer (lentOn c f w) key k) f′ r k m p (λ n z. delete-printed (lentOn c f w) key k n p z) d
 tells-printed (get key b b′ r e h) y m (t, d) = tells-printed h y m t
 tells-printed (count r e h) y m (t, d) = tells-printed h y m t
 tells-printed (next key b b′ r e h) y m (t, d) = tells-printed h y m t

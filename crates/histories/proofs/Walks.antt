@@ -7,17 +7,16 @@ use native.Mathlib.Omega.{arith}
 use lib.ListN.{length}
 use Rattle.log.specs.Key.{Key, _≺_}
 use Rattle.log.specs.Map.{Map, Sorted, keys}
-use Rattle.store.specs.Ends.{Sized}
-use Rattle.store.specs.Calls.{mapIn, mark, lentOf}
-use Rattle.store.specs.declared.Answer.{Answer}
-use Rattle.store.specs.declared.Answer.the-variants.{Done, Refused}
+use Rattle.lent.specs.Area.{mapIn, lentOf}
+use Rattle.lent.specs.declared.Answer.{Answer}
+use Rattle.lent.specs.declared.Answer.the-variants.{Done, Refused}
 use Rattle.keys.specs.Walk.{Walk, Has, Each, times, Rise, Had}
 use Rattle.keys.specs.Walk as walk
 use Rattle.keys.proofs.Chips.{map-sorted, map-key}
 use Rattle.keys.proofs.Given.{next-given, next-ended, next-answers}
 use Rattle.keys.proofs.Walks.{rise-once, walk-rises, walk-had, walk-once, walk-all}
 use Rattle.histories.specs.Walks.{Call, Walks, end, step, maps}
-use Rattle.histories.proofs.Histories.{lives}
+use Rattle.histories.proofs.Histories.{Tends, tends, kept, lives}
 
 each-sorted : (cs : List (List ℕ)) → Each Sorted (maps cs)
 each-sorted [] = tt
@@ -31,9 +30,9 @@ before-all (x ∷ k) l = tt
 module _ (B : ℕ) (big : 4 ≤ B) where
   -- the calls of a store walk over its maps
   walked : {k : Key} {cs : List (List ℕ)} {js : List Key} → Walks B k cs js → Walk k (maps cs) js
-  walked (end {k} {c} {b′} a) = walk.end (next-ended (lentOf c (a .f) (a .w)) k (mapIn c) (a .b) b′ (a .ends (lives B big (a .history) .tended)))
+  walked (end {k} {c} {b′} a) = walk.end (next-ended (lentOf c (a .f) (a .w)) k (mapIn c) (a .b) b′ (a .ends (kept B big (a .history))))
   walked (step {k} {c} {b′} len a w) =
-      walk.step (next-given (lentOf c (a .f) (a .w)) k (mapIn c) (a .b) b′ len (a .ends (lives B big (a .history) .tended))) (walked w)
+      walk.step (next-given (lentOf c (a .f) (a .w)) k (mapIn c) (a .b) b′ len (a .ends (kept B big (a .history)))) (walked w)
 
   -- a key that has a value at a call has 1 to 16 bytes
   called-key : {k c b′ : List ℕ} {r : Answer} → Call B k c r b′ → (x : Key) → Has x (mapIn c) → (1 ≤ length x) × (length x ≤ 16)
@@ -52,7 +51,8 @@ module _ (B : ℕ) (big : 4 ≤ B) where
   pub given-had : {cs : List (List ℕ)} {js : List Key} → Walks B [] cs js → Had (maps cs) js
   given-had w = walk-had (walked w)
 
-  -- THEOREM: A KEY THAT HAS A VALUE AT EACH CALL OF THE WALK IS GIVEN EXACTLY ONCE, whatever else happens. A key that had a value throughout has one at each call
+  -- THEOREM: A KEY THAT HAS A VALUE AT EACH CALL OF THE WALK IS GIVEN EXACTLY ONCE, whatever else happens. A key that had a value throughout has one at each
+  -- call
   pub given-once : {cs : List (List ℕ)} {js : List Key} → Walks B [] cs js → (k : Key) → Each (Has k) (maps cs) → times k js ≡ 1
   given-once {cs} w k h = walk-once (walked w) k (before-all k (some-key w h)) (each-sorted cs) h
     where
@@ -76,6 +76,8 @@ module _ (B : ℕ) (big : 4 ≤ B) where
       go (end a) h = tt
       go (step len a w) h = (called-key a _ (h .0), go w (h .1))
 
-  -- A CALL OF A WALK GIVES A KEY, OR SAYS THAT THERE IS NONE: where the store is ready, a key is given back, and the buffer has 16 bytes or more
-  pub call-answers : {k c b′ : List ℕ} {r : Answer} (a : Call B k c r b′) → Sized c (a .w) → 0 < a .f → mark (a .w) ≡ 1 → length k ≤ 16 → 16 ≤ length (a .b) → (r ≡ Refused 4) ⊎ ((len : ℕ) × (r ≡ Done len))
-  call-answers {k} {c} {b′} {r} a s l e h g = next-answers c (a .f) (a .w) k (a .b) b′ s l e h g r (a .ends (lives B big (a .history) .tended))
+  -- A CALL OF A WALK GIVES A KEY, OR SAYS THAT THERE IS NONE: where there is power, a key is given back, and the buffer has 16 bytes or more
+  pub call-answers : {k c b′ : List ℕ} {r : Answer} (a : Call B k c r b′) → 0 < a .f → length k ≤ 16 → 16 ≤ length (a .b) → (r ≡ Refused 4) ⊎ ((len : ℕ) × (r ≡ Done len))
+  call-answers {k} {c} {b′} {r} a l h g =
+      let t : Tends c (a .f) (a .w) = tends B big (a .history) in
+      next-answers c (a .f) (a .w) k (a .b) b′ (t .sized) l (t .lit l .0) h g r (a .ends (kept B big (a .history)))

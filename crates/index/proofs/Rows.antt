@@ -12,21 +12,18 @@ use Rattle.log.specs.Key.{Key, _≺_}
 use Rattle.log.specs.Map.{Map, alter, keys}
 use Rattle.log.specs.Log.{Placed, pageOf, oldest, run, bytes, pages}
 use Rattle.log.specs.Ring.{chipOf, head, tableAt, table, mapOf}
+use Rattle.log.specs.Opening.{keyAt as rowKey, none-there}
 use Rattle.log.proofs.Window.{page-lt}
 use Rattle.log.proofs.MapMore.{sorted-at}
 use Rattle.log.proofs.LogLaws.{Stands}
 use Rattle.log.proofs.Clean.{run-sorted}
-use Rattle.log.proofs.Place.{keyAt as rowKey, absent-alter}
+use Rattle.log.proofs.Place.{absent-alter}
 use Rattle.log.proofs.Index.{pages-length, pages-at, pages-insert, pages-replace, pages-remove, index-stands}
 use Rattle.index.specs.Index.{keysOf, Ordered}
 use Rattle.index.specs.Answers.{FindsBy, Finds, putAt, takeOut}
 use Rattle.index.specs.declared.Found.{Found}
 use Rattle.index.specs.declared.Found.the-variants.{At, Missing}
 use Rattle.index.proofs.Search.{nth-key, length-keys}
-
--- where a list has no row
-abbrev pub none-there : Key × Placed
-none-there = ([], (0, []))
 
 keys-length : {A : Type 0} (m : Map A) → length (keys m) ≡ length m
 unfolding keys

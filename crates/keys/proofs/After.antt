@@ -23,14 +23,14 @@ use Rattle.index.specs.declared.Found.{Found}
 use Rattle.index.specs.declared.Found.the-variants.{At, Missing}
 use Rattle.index.proofs.Search.{nth-key, length-keys}
 use Rattle.index.proofs.Rows.{table-keys}
-use Rattle.store.specs.Ends.{blocksOf}
-use Rattle.store.specs.Calls.{mapIn, lentOf, Kept, number, lentNumber, due, Tested, Gets}
-use Rattle.store.specs.declared.Answer.{Answer}
-use Rattle.store.specs.declared.Answer.the-variants.{Refused}
-use Rattle.store.proofs.Rows.{index-ordered}
-use Rattle.store.specs.Reads.{Fetches}
-use Rattle.store.proofs.Numbers.{lent-due, refuse-due, tested-first, tested-next}
-use Rattle.store.proofs.Gets.{got-refused, got-fetched}
+use Rattle.lent.specs.Area.{blocksOf, mapIn, lentOf, Kept}
+use Rattle.lent.specs.Tested.{number, lentNumber, due, Tested}
+use Rattle.fetch.specs.Fetched.{Gets, Fetches}
+use Rattle.lent.specs.declared.Answer.{Answer}
+use Rattle.lent.specs.declared.Answer.the-variants.{Refused}
+use Rattle.fetch.proofs.Rows.{index-ordered}
+use Rattle.lent.proofs.Numbers.{lent-due, refuse-due, tested-first, tested-next}
+use Rattle.fetch.proofs.Gets.{got-refused, got-fetched}
 use Rattle.keys.specs.Next.{nextKey, nextAnswer, first, HandsFrom}
 
 -- ---- THE NEXT KEY, one pair at a time

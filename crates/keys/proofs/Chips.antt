@@ -16,8 +16,7 @@ use Rattle.log.proofs.MapLaws.{some≢none}
 use Rattle.log.proofs.MapMore.{lookup-mapV, sorted-mapV}
 use Rattle.log.proofs.LogLaws.{Stands}
 use Rattle.log.proofs.Clean.{run-sorted, run-stands}
-use Rattle.store.specs.Ends.{blocksOf}
-use Rattle.store.specs.Calls.{mapIn}
+use Rattle.lent.specs.Area.{blocksOf, mapIn}
 use Rattle.keys.specs.Walk.{Has}
 
 -- the map is sorted

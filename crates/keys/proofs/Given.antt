@@ -14,24 +14,24 @@ use Rattle.log.specs.Map.{Map}
 use Rattle.log.specs.Answers.{Lent, refuse, refused, done, gotten}
 use Rattle.log.specs.Answers.{Answer as Says}
 use Rattle.log.proofs.AnswerLaws.{refuse-other, refuse-done, done-never, done-is}
-use Rattle.store.specs.Ends.{Sized}
-use Rattle.store.specs.Calls.{mapIn, mark, lentOf, GetsBy, Gets}
-use Rattle.store.specs.declared.Answer.{Answer}
-use Rattle.store.specs.declared.Answer.the-variants.{Done, Refused}
-use Rattle.store.proofs.Numbers.{sizes-hold, done-inj, refused-inj, done≢refused}
+use Rattle.lent.specs.Area.{Sized, mapIn, mark, lentOf}
+use Rattle.fetch.specs.Fetched.{GetsBy, Gets}
+use Rattle.lent.specs.declared.Answer.{Answer}
+use Rattle.lent.specs.declared.Answer.the-variants.{Done, Refused}
+use Rattle.lent.proofs.Numbers.{sizes-hold, done-inj, refused-inj, done≢refused}
 use Rattle.keys.specs.Next.{nextKey, nextAnswer}
 use Rattle.keys.proofs.Chips.{map-key}
 use Rattle.keys.proofs.Walks.{next-has}
 
 -- ---- an answer of the code is that of the document
-says-done : (b b′ : List ℕ) (s : Says (ℕ × List ℕ)) (n : ℕ) → Gets b b′ s (Done n) → s ≡ done (n, b′)
+pub says-done : (b b′ : List ℕ) (s : Says (ℕ × List ℕ)) (n : ℕ) → Gets b b′ s (Done n) → s ≡ done (n, b′)
 says-done b b′ s n g = go s (g .ends)
   where
     go : (s : Says (ℕ × List ℕ)) → GetsBy b b′ s (Done n) → s ≡ done (n, b′)
     go (refused k) (e, q) = absurd (done≢refused n k e)
     go (done v) (e, q) = let d : v .0 ≡ n = sym (done-inj n (v .0) e) in let o : v .1 ≡ b′ = sym q in λ i. done (d i, o i)
 
-says-refused : (b b′ : List ℕ) (s : Says (ℕ × List ℕ)) (k : ℕ) → Gets b b′ s (Refused k) → s ≡ refused k
+pub says-refused : (b b′ : List ℕ) (s : Says (ℕ × List ℕ)) (k : ℕ) → Gets b b′ s (Refused k) → s ≡ refused k
 says-refused b b′ s k g = go s (g .ends)
   where
     go : (s : Says (ℕ × List ℕ)) → GetsBy b b′ s (Refused k) → s ≡ refused k
@@ -41,7 +41,7 @@ says-refused b b′ s k g = go s (g .ends)
 -- ---- what is behind the tests
 
 -- a key that was gotten stands at the start of the buffer
-gotten-done : (b b′ : List ℕ) (n : ℕ) (o : Option Key) → gotten b o ≡ done (n, b′) → o ≡ some (take n b′)
+pub gotten-done : (b b′ : List ℕ) (n : ℕ) (o : Option Key) → gotten b o ≡ done (n, b′) → o ≡ some (take n b′)
 gotten-done b b′ n none e = absurd (done-never (n, b′) 4 (sym e))
 gotten-done b b′ n (some k) e =
     let q : _≡_ {A = ℕ × List ℕ} (length k, k ++ drop (length k) b) (n, b′) = done-is _ (n, b′) (refuse-done 6 _ _ (n, b′) e .1) in

@@ -9,8 +9,9 @@ use Rattle.log.specs.Map.{Map}
 use Rattle.log.specs.Answers.{Lent, refuse, lent, gotten}
 use Rattle.log.specs.Answers.{Answer as Says}
 use Rattle.index.specs.Index.{keysOf, Ordered}
-use Rattle.store.specs.Calls.{mapIn, lentOf, Kept, Gets}
-use Rattle.store.specs.declared.Answer.{Answer}
+use Rattle.lent.specs.Area.{mapIn, lentOf, Kept}
+use Rattle.fetch.specs.Fetched.{Gets}
+use Rattle.lent.specs.declared.Answer.{Answer}
 
 -- the next larger key that has a value: the first of the map's keys, in their order, that comes after k; none if there is none
 unfoldable pub nextKey : {A : Type 0} → Key → Map A → Option Key

@@ -1,12 +1,11 @@
 // The keys in their order, one by one (request 8 of document 02): given a key, or none, the next larger key that has a value. The definitions are in specs/Next.antt;
 // what a walk from none to the end gives, whatever happens to the map on the way, is in specs/Walk.antt and proofs/Walks.antt, and of histories in the crate `histories`.
 use index::Found;
-use store::Answer;
+use lent::Answer;
 ghost use Prim.Native.Nat.{_≤_};
 ghost use lib.ListN.{length, take};
-ghost use Rattle.store.specs.Ends.{Got};
-ghost use Rattle.store.specs.Calls.{mapIn};
-ghost use Rattle.store.specs.Reads.{Fetches};
+ghost use Rattle.fetch.specs.Fetched.{Got, Fetches};
+ghost use Rattle.lent.specs.Area.{mapIn};
 ghost use Rattle.keys.specs.Next.{nextKey, HandsFrom, NextEnds};
 
 // The key on the page of entry i, if there are so many entries.
@@ -22,7 +21,7 @@ fn hand_key(chip: &[u8], index: &[u32], n: usize, i: usize, buffer: &mut [u8]) -
     if chip.len() / 256 <= p {
         return Answer::Refused(8);
     }
-    store::hand_out(record::key_at(chip, p), buffer)
+    fetch::hand_out(record::key_at(chip, p), buffer)
 }
 
 // The next key, by the index.
@@ -43,7 +42,7 @@ pub fn next(chip: &[u8], work: &[u32], fuse: &u64, key: &[u8], buffer: &mut [u8]
     ensures got { λ r. ⌜ Got (now (buffer .entry)) (now (buffer .exit)) r ⌝ }
     ensures right { λ r. ⌜ (NextEnds (now (chip .entry)) (now (fuse .entry)) (now (work .entry)) (now (key .entry)) (now (buffer .entry)) (now (buffer .exit)) r) ⌝ }
 {
-    let k = store::unready(chip, work, *fuse);
+    let k = lent::unready(chip, work, fuse);
     if 0 < k {
         return Answer::Refused(k);
     }

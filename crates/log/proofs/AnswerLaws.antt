@@ -8,11 +8,11 @@ use Prim.Native.Nat.{ℕ, _+_, _≤_}
 use native.Mathlib.Omega.{arith}
 use lib.Dec.{leb}
 use lib.ListN.{length}
-use borrow.Author.Tests.{leb-false, leb-true}
+use borrow.Author.Tests.{leb-false, leb-true, not-false}
 use Rattle.log.specs.Key.{Key}
 use Rattle.log.specs.Map.{Map, lookup, alter, Sorted}
 use Rattle.log.specs.Ring.{room}
-use Rattle.log.specs.Answers.{Answer, refused, done, Lent, blocks, refuse, lent, missing, putAnswer, deleteAnswer}
+use Rattle.log.specs.Answers.{Answer, refused, done, Lent, blocks, refuse, lent, missing, printed, putAnswer, deleteAnswer}
 use Rattle.log.proofs.MapLaws.{orZero, some≢none}
 use Rattle.log.proofs.MapMore.{total-alter, total-ones}
 
@@ -111,13 +111,22 @@ pub count-alter : (k : Key) (o : Option (List ℕ)) (m : Map (List ℕ)) → Sor
 count-alter k o m s =
     omega (arith, total-alter (λ (v : List ℕ). 1) k o m s, total-ones (alter k o m), total-ones m)
 
+-- ---- WHAT IS DONE: no test held, and the map is altered
+pub put-done : (l : Lent) (k : Key) (v : List ℕ) (m n : Map (List ℕ)) → putAnswer l k v m ≡ done n
+    → (printed k ≡ true) × ((missing (lookup k m) && leb (room (blocks l)) (length m)) ≡ false) × (alter k (some v) m ≡ n)
+put-done l k v m n e =
+    let p = refuse-done 1 _ _ n (refuse-done 1 _ _ n (lent-done l _ n e) .1) in
+    let q = refuse-done 3 _ _ n (refuse-done 2 _ _ n (p .1) .1) in
+    (not-false _ (p .0), q .0, done-is _ n (q .1))
+
+pub delete-done : (l : Lent) (k : Key) (m n : Map (List ℕ)) → deleteAnswer l k m ≡ done n → alter k none m ≡ n
+delete-done l k m n e = done-is _ n (refuse-done 4 _ _ n (refuse-done 1 _ _ n (lent-done l _ n e) .1) .1)
+
 -- THE MAP NEVER HAS MORE KEYS THAN THERE IS ROOM FOR
 pub put-fits : (l : Lent) (k : Key) (v : List ℕ) (m n : Map (List ℕ)) → Sorted m → length m ≤ room (blocks l) → putAnswer l k v m ≡ done n → length n ≤ room (blocks l)
 put-fits l k v m n s few e =
-    let d : refuse 3 (missing (lookup k m) && leb (room (blocks l)) (length m)) (done (alter k (some v) m)) ≡ done n =
-    refuse-done 2 _ _ n (refuse-done 1 _ _ n (refuse-done 1 _ _ n (lent-done l _ n e) .1) .1) .1 in
-    let p : ((missing (lookup k m) && leb (room (blocks l)) (length m)) ≡ false) × (done (alter k (some v) m) ≡ done n) = refuse-done 3 _ _ n d in
-    go (lookup k m) refl (p .0) (done-is _ n (p .1))
+    let d = put-done l k v m n e in
+    go (lookup k m) refl (d .1) (d .2)
   where
     go : (o : Option (List ℕ)) → lookup k m ≡ o → (missing o && leb (room (blocks l)) (length m)) ≡ false → alter k (some v) m ≡ n → length n ≤ room (blocks l)
     go none h t q =
@@ -126,6 +135,4 @@ put-fits l k v m n s few e =
 
 -- after a delete
 pub delete-fits : (l : Lent) (k : Key) (m n : Map (List ℕ)) → Sorted m → length m ≤ room (blocks l) → deleteAnswer l k m ≡ done n → length n ≤ room (blocks l)
-delete-fits l k m n s few e =
-    let d : done (alter k none m) ≡ done n = refuse-done 4 _ _ n (refuse-done 1 _ _ n (lent-done l _ n e) .1) .1 in
-    omega (arith, count-alter k none m s, ap length (done-is _ n d))
+delete-fits l k m n s few e = omega (arith, count-alter k none m s, ap length (delete-done l k m n e))

@@ -14,12 +14,13 @@ use Rattle.log.specs.Log.{Placed, placed, pageOf, oldest, pages}
 use Rattle.log.specs.Ring.{Chip, sealed, spare, Ring, next, table, mapOf, Ready}
 use Rattle.log.specs.Call.{Page}
 use Rattle.log.specs.Wear.{ages, phi, potential}
+use Rattle.log.specs.Opening.{Opening, fresh}
 use Rattle.log.proofs.Steps.{Written, Spoilt, Free, head-page, table-at, append-ring, append-table, append-map, spoilt-table, spoilt-map}
 use Rattle.log.proofs.WearLaws.{ages-write, phi-call}
 use Rattle.log.proofs.RingLaws.{next-blank, next-is, next-cong}
 use Rattle.log.proofs.Clean.{run-sorted}
 use Rattle.log.proofs.Potential.{potential-at}
-use Rattle.log.proofs.Opening.{Opening, fresh, said-full, opening-ring, opening-next, opening-paid}
+use Rattle.log.proofs.Opening.{said-full, opening-ring, opening-next, opening-paid}
 
 module _ (B : ℕ) (big : 4 ≤ B) where
   -- the table is sorted by key

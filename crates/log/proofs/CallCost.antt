@@ -12,10 +12,11 @@ use Rattle.log.specs.Log.{Placed, oldest}
 use Rattle.log.specs.Ring.{Chip, sealed, spare, Ring, next, table, room}
 use Rattle.log.specs.Call.{Page, Erased, State, resting, copying, Trace, stop, append, append-cut, erasing, erase-cut, first, skip, copy, copy-cut, seal, seal-cut}
 use Rattle.log.specs.Wear.{ages, phi, potential}
+use Rattle.log.specs.Opening.{Opening, fresh, Moved}
 use Rattle.log.proofs.RingLaws.{next-is}
 use Rattle.log.proofs.Start.{blank-ring, blank-table}
-use Rattle.log.proofs.WearLaws.{ripes, ripes-le}
-use Rattle.log.proofs.Opening.{Opening, fresh, opening-fresh, opening-ring, opening-count, opening-next, opening-progress}
+use Rattle.log.proofs.WearLaws.{ripes-le}
+use Rattle.log.proofs.Opening.{opening-fresh, opening-ring, opening-count, opening-next, opening-progress}
 use Rattle.log.proofs.Potential.{potential-at}
 use Rattle.log.proofs.Append.{opened-paid}
 use Rattle.log.proofs.Crash.{erase-done, skip-done, copy-done}
@@ -64,23 +65,17 @@ module _ (B : ℕ) (big : 4 ≤ B) where
 
   -- ---- PROGRESS: after j openings and K copies no value was moved twice, and all openings but the last were full of copies
 
-  -- the invariant of the loop "while the head is full: open the next block"
-  pub record Moved (c : Chip) (h j K : ℕ) : Type 0 where
-    pub rows : K + ripes j (h + B) (table B c) ≤ room B
-    pub full : next c h ≡ 15 → 15 * j ≤ K
-    pub most : 15 * j ≤ K + 15
-
   -- it holds before the first opening
-  pub moved-start : (c : Chip) (h : ℕ) → length (table B c) ≤ room B → Moved c h 0 0
+  pub moved-start : (c : Chip) (h : ℕ) → length (table B c) ≤ room B → Moved B c h 0 0
   moved-start c h few = record { rows = omega (arith, ripes-le 0 (h + B) (table B c)); full = λ e. omega arith; most = omega arith }
 
   -- the loop goes round fewer than B - 1 times
-  pub moved-few : (c : Chip) (h j K : ℕ) → Moved c h j K → next c h ≡ 15 → j + 2 < B
+  pub moved-few : (c : Chip) (h j K : ℕ) → Moved B c h j K → next c h ≡ 15 → j + 2 < B
   moved-few c h j K m e = omega (arith, m .full e, m .rows)
 
   -- an opening keeps it
   pub moved-open : (h : ℕ) (c₀ c c′ : Chip) (s j K : ℕ) (o : Opening B h c₀ c (oldest B (h + B) + 15) s) (w : Page (16 * h + 15) c c′) → sealed c′ h ≡ true
-      → next c₀ h ≡ 15 → Moved c₀ h j K → Moved c′ (spare B h) (suc j) (K + (s - fresh B h))
+      → next c₀ h ≡ 15 → Moved B c₀ h j K → Moved B c′ (spare B h) (suc j) (K + (s - fresh B h))
   moved-open h c₀ c c′ s j K o w on full m =
       record {
         rows = omega (arith, m .rows, opening-progress B big h c₀ c c′ s o w on j (omega (arith, moved-few c₀ h j K m full)));
@@ -89,12 +84,12 @@ module _ (B : ℕ) (big : 4 ≤ B) where
       }
 
   -- the copies of this opening are among the values not yet moved
-  within : (h : ℕ) (c₀ c : Chip) (t s j K : ℕ) → Opening B h c₀ c t s → next c₀ h ≡ 15 → Moved c₀ h j K → K + (s - fresh B h) ≤ room B
+  within : (h : ℕ) (c₀ c : Chip) (t s j K : ℕ) → Opening B h c₀ c t s → next c₀ h ≡ 15 → Moved B c₀ h j K → K + (s - fresh B h) ≤ room B
   within h c₀ c t s j K o full m = omega (arith, m .rows, o .ripened j (omega (arith, moved-few c₀ h j K m full)))
 
   abbrev Going : ℕ → ℕ → State → Type 0
-  Going j K (resting c h) = Moved c h j K
-  Going j K (copying h c₀ c t s) = Moved c₀ h j K
+  Going j K (resting c h) = Moved B c h j K
+  Going j K (copying h c₀ c t s) = Moved B c₀ h j K
 
   -- the writes and openings before
   abbrev wrote : ℕ → ℕ → State → ℕ

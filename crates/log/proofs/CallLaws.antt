@@ -4,7 +4,7 @@ use mathlib.Core.Path.{_≡_, refl, ap, _∙_}
 use mathlib.Core.Logic.{_⊎_, inl, inr}
 use mathlib.Core.List.{List}
 use mathlib.Core.Bool.{Bool, false}
-use Prim.Native.Nat.{ℕ, suc, _+_, _-_, _≤_}
+use Prim.Native.Nat.{ℕ, suc, _+_, _≤_}
 use native.Mathlib.Omega.{arith}
 use Rattle.chip.specs.Play.{Op}
 use Rattle.record.specs.Record.{Rec}
@@ -12,7 +12,8 @@ use Rattle.log.specs.Map.{Map, alter}
 use Rattle.log.specs.Log.{oldest}
 use Rattle.log.specs.Ring.{Chip, spare, Ring, mapOf}
 use Rattle.log.specs.Call.{State, resting, copying, Trace, stop, append, append-cut, erasing, erase-cut, first, skip, copy, copy-cut, seal, seal-cut, After}
-use Rattle.log.proofs.Opening.{Opening, fresh, opening-fresh}
+use Rattle.log.specs.Opening.{Opening, fresh}
+use Rattle.log.proofs.Opening.{opening-fresh}
 use Rattle.log.proofs.Crash.{append-done, append-lost, erase-done, erase-lost, skip-done, copy-done, copy-lost, seal-done, seal-lost}
 
 module _ (B : ℕ) where

@@ -9,15 +9,12 @@ use Prim.Native.Nat.{ℕ, suc, _-_, _≤_, _<_}
 use native.Mathlib.Omega.{arith}
 use Rattle.record.specs.Record.{Rec}
 use Rattle.log.specs.Key.{Key, key≟}
-use Rattle.log.specs.Map.{Map, lookup, alter, Sorted}
+use Rattle.log.specs.Map.{lookup, alter, Sorted}
 use Rattle.log.specs.Log.{Recs, Placed, placed, pageOf, logFrom, oldest, run}
+use Rattle.log.specs.Opening.{From}
 use Rattle.log.proofs.MapLaws.{some-inj, some≢none, lookup-same, lookup-other}
 use Rattle.log.proofs.ReplayLaws.{sorted-replay}
 use Rattle.log.proofs.LogLaws.{Stands, row-stands}
-
--- every value stands at t or later
-abbrev pub From : Map Placed → ℕ → Type 0
-From m t = (k : Key) (a : Placed) → lookup k m ≡ some a → t ≤ a .0
 
 module _ (B : ℕ) (recs : Recs) (e s : ℕ) where
   -- the map of a run is sorted

@@ -9,12 +9,13 @@ use Rattle.log.specs.Map.{lookup, alter}
 use Rattle.log.specs.Log.{Placed, pageOf, oldest, run}
 use Rattle.log.specs.Ring.{Chip, sealed, spare, Ring, next, mapOf}
 use Rattle.log.specs.Call.{Page, Block, Erased, Wrote, CutWrote}
+use Rattle.log.specs.Opening.{Opening, fresh}
 use Rattle.log.proofs.MapLaws.{some-inj}
 use Rattle.log.proofs.LogLaws.{Stands}
 use Rattle.log.proofs.RingLaws.{round-later}
 use Rattle.log.proofs.Clean.{run-stands}
 use Rattle.log.proofs.Steps.{Written, Spoilt, block-ring, block-map, unsealed-ring}
-use Rattle.log.proofs.Opening.{Opening, fresh, opening-none, opening-dead, opening-erased, copy-cut, opening-copy, sealing-none, opening-ring, opening-map}
+use Rattle.log.proofs.Opening.{opening-none, opening-dead, opening-erased, copy-cut, opening-copy, sealing-none, opening-ring, opening-map}
 use Rattle.log.proofs.Append.{place, place-page, put-ring, put-map, lost-ring, lost-map}
 
 -- a write at place s, whole; and cut: it says what was meant, or nothing

@@ -11,10 +11,11 @@ use lib.ListN.{length, getD, take, drop, set}
 use Rattle.log.specs.Key.{Key, _≺_}
 use Rattle.log.specs.Map.{Map, alter, Sorted}
 use Rattle.log.specs.Log.{Recs, Placed, pageOf, oldest, run, pages}
+use Rattle.log.specs.Opening.{keyAt}
 use Rattle.log.proofs.Window.{page-inj}
 use Rattle.log.proofs.LogLaws.{Stands}
 use Rattle.log.proofs.Clean.{run-sorted, run-stands}
-use Rattle.log.proofs.Place.{keyAt, absent-alter, found-lookup, found-alter, found-set}
+use Rattle.log.proofs.Place.{absent-alter, found-lookup, found-alter, found-set}
 
 module _ (B : ℕ) where
   -- the index has an entry for each row

@@ -1,7 +1,7 @@
 -- THE INDEX IN AN OPENING, as an array holds it: it begins with the table's, and a copy replaces one entry. (After the seal: `opening-ready`.) Assumes nothing.
 use mathlib.Core.Path.{_≡_, refl, sym, ap, _∙_}
 use mathlib.Core.Option.{some}
-use Prim.Native.Nat.{ℕ, suc, _+_, _-_, _≤_, _<_}
+use Prim.Native.Nat.{ℕ, suc, _+_, _≤_, _<_}
 use native.Mathlib.Omega.{arith}
 use lib.ListN.{length, set}
 use Rattle.record.specs.Record.{Rec}
@@ -10,11 +10,11 @@ use Rattle.log.specs.Map.{lookup}
 use Rattle.log.specs.Log.{Placed, placed, pageOf, oldest, run, pages}
 use Rattle.log.specs.Ring.{Chip, spare, Ring, table}
 use Rattle.log.specs.Call.{Block}
+use Rattle.log.specs.Opening.{keyAt, Opening, fresh}
 use Rattle.log.proofs.Clean.{run-sorted}
-use Rattle.log.proofs.Place.{keyAt}
 use Rattle.log.proofs.Index.{pages-replace}
 use Rattle.log.proofs.Steps.{Written, block-run, table-at}
-use Rattle.log.proofs.Opening.{Opening, fresh, grown}
+use Rattle.log.proofs.Opening.{grown}
 
 module _ (B : ℕ) (big : 4 ≤ B) (h : ℕ) where
   -- ---- AN OPENING BEGINS: the run is the table, whether the spare was erased or, in the first round, left as it was

@@ -4,7 +4,7 @@ use mathlib.Core.Path.{_≡_, refl, sym, _∙_, subst}
 use mathlib.Core.Logic.{_≢_, if-pos, if-neg}
 use mathlib.Core.List.{[], _∷_}
 use mathlib.Core.Option.{Option, none, some}
-use Prim.Native.Nat.{ℕ, _<_}
+use Prim.Native.Nat.{ℕ}
 pub use Rattle.record.proofs.Reading.{some≢none, some-inj}
 use Rattle.log.specs.Key.{Key, _≺_, Tri, tri<, tri≡, tri>, tri, key≟}
 use Rattle.log.specs.Map.{Map, lookup, put, alter, Above, Sorted}

@@ -4,7 +4,7 @@
 use mathlib.Core.Path.{_≡_, sym, ap, _∙_}
 use mathlib.Core.Logic.{_≢_, _⊎_, inl, inr}
 use mathlib.Core.Bool.{true, false}
-use Prim.Native.Nat.{ℕ, suc, _+_, _-_, _*_, _/_, _%_, _≤_, _<_}
+use Prim.Native.Nat.{ℕ, suc, _+_, _*_, _/_, _%_, _≤_, _<_}
 use native.Mathlib.Nat.{mod-lt, mod-eq-of-lt, add-mod-left, mul-add-mod-self-left, div-add-mod}
 use native.Mathlib.Decide.{decLt}
 use native.Mathlib.Omega.{arith}
@@ -12,8 +12,8 @@ use lib.Dec.{leb}
 use borrow.Author.Tests.{le-leb, lt-leb, leb-true, leb-false}
 use Rattle.log.specs.Ring.{Chip, sealed, spare, Later, Ring}
 use Rattle.log.specs.Call.{Page}
+use Rattle.log.specs.Opening.{Fresh}
 use Rattle.log.proofs.Window.{block-ne}
-use Rattle.log.proofs.RingLaws.{Fresh}
 
 pub record Numbered (B : ℕ) (c : Chip) (h o : ℕ) : Type 0 where
   pub block : h ≡ o % B

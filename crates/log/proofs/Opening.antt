@@ -17,44 +17,19 @@ use Rattle.log.specs.Map.{lookup, alter, total}
 use Rattle.log.specs.Log.{Placed, placed, pageOf, oldest, run, bytes, pages}
 use Rattle.log.specs.Ring.{Chip, sealed, spare, Later, Ring, next, table, mapOf, Ready}
 use Rattle.log.specs.Call.{Page, Block}
-use Rattle.log.specs.Wear.{ages, phi, potential}
+use Rattle.log.specs.Wear.{ages, phi, potential, ripes}
+use Rattle.log.specs.Opening.{Fresh, From, fresh, Opening}
 use Rattle.log.proofs.MapLaws.{All, some≢none}
-use Rattle.log.proofs.RingLaws.{Fresh, round-later, round-first, next-is}
+use Rattle.log.proofs.RingLaws.{round-later, round-first, next-is}
 use Rattle.log.proofs.Steps.{Written, Free, run-write, copy-bytes, spare-page, table-at, wrote, block-later, block-ring, block-run, block-map, page-block-only, in-spare, unsealed-map, seal-ring}
-use Rattle.log.proofs.WearLaws.{ripes, ages-turn, ages-copy, ripes-turn, ripes-copy, count-copy, phi-open}
+use Rattle.log.proofs.WearLaws.{ages-turn, ages-copy, ripes-turn, ripes-copy, count-copy, phi-open}
 use Rattle.log.proofs.MapMore.{all-lookup, total-ones}
 use Rattle.log.proofs.Window.{page-block, page-unsealed, page-inj, page-lt}
 use Rattle.log.proofs.LogLaws.{Stands}
 use Rattle.log.proofs.Index.{pages-length, same-place}
-use Rattle.log.proofs.Clean.{From, run-sorted, run-stands, run-from, skip-none, skip-dead, copied}
+use Rattle.log.proofs.Clean.{run-sorted, run-stands, run-from, skip-none, skip-dead, copied}
 use Rattle.log.proofs.Potential.{block-potential}
 use Rattle.log.proofs.Turn.{Turned, turned-pages, turned-bytes, turned-length, turned-ages, turned-ripes, seal-turned}
-
-module _ (B : ℕ) where
-  -- the first place of the spare, by its number
-  abbrev pub fresh : ℕ → ℕ
-  fresh h = 15 * (h + B) + 15
-
-  -- THE INVARIANT
-  pub record Opening (h : ℕ) (c₀ c : Chip) (t s : ℕ) : Type 0 where
-    pub ring : Ring B c h
-    -- the spare may be written: it was erased, or never used
-    pub round : Later B c h ⊎ Fresh B c h
-    pub unsealed : sealed c (spare B h) ≡ false
-    pub blank : (u : ℕ) → s ≤ u → u < fresh h + 15 → c .full (pageOf B u) ≡ false
-    pub dense : (u : ℕ) → fresh h ≤ u → u < s → c .full (pageOf B u) ≡ true
-    pub copies : fresh h ≤ s
-    pub fewer : s + oldest B (h + B) ≤ t + fresh h
-    pub inside : t ≤ oldest B (h + B) + 15
-    pub from : From (run B (c .recs) (h + B) s) t
-    -- the map in memory is the map of before, and so is that of the chip
-    pub memory : bytes (run B (c .recs) (h + B) s) ≡ mapOf B c₀
-    pub chip : mapOf B c ≡ mapOf B c₀
-    pub still : potential B c ≡ potential B c₀
-    -- the sum of ages, seen from the next head: B - 1 less for each copy; and of the values older than j one less
-    pub older : ages (h + B + 1) (run B (c .recs) (h + B) s) + (B - 1) * (s - fresh h) ≡ ages (h + B) (table B c₀) + length (table B c₀)
-    pub ripened : (j : ℕ) → j + 1 < B → ripes (suc j) (h + B + 1) (run B (c .recs) (h + B) s) + (s - fresh h) ≡ ripes j (h + B) (table B c₀)
-    pub count : length (run B (c .recs) (h + B) s) ≡ length (table B c₀)
 
 -- a page with a record is not blank
 pub said-full : (c : Chip) (p : ℕ) (r : Rec) → c .recs p ≡ some r → c .full p ≡ true

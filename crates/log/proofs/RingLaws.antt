@@ -10,6 +10,7 @@ use native.Mathlib.Omega.{arith}
 use lib.Dec.{eqb, leb}
 use borrow.Author.Tests.{eqb-true, eq-eqb, le-leb, leb-true, not-true}
 use Rattle.log.specs.Ring.{Chip, sealed, headFrom, head, spare, First, Later, Ring, firstTest, laterTest, ringTest, nextTo}
+use Rattle.log.specs.Opening.{Fresh}
 use Rattle.page.specs.Page.{all}
 use Rattle.page.proofs.All.{all-at, all-of, and-true, and-left, and-right}
 use Rattle.log.proofs.Window.{spare-cases, block-ne}
@@ -30,10 +31,6 @@ true-or false b (inr e) = e
 -- no test is both true and false
 pub not-both : {b : Bool} → b ≡ true → b ≡ false → ⊥
 not-both e d = true≢false (sym e ∙ d)
-
--- the first round, and the oldest block was never used either
-abbrev pub Fresh : ℕ → Chip → ℕ → Type 0
-Fresh B c h = (h + 2 < B) × First B c h
 
 -- ---- the search for the head: what its loop knows
 

@@ -16,7 +16,8 @@ use Rattle.log.specs.Map.{Map, lookup, alter, Sorted, mapO, mapV}
 use Rattle.log.specs.Log.{Entry, replay, Recs, Placed, placed, pageOf, entry, logFrom, oldest, run, bytes}
 use Rattle.log.specs.Ring.{Chip, sealed, spare, First, Later, Ring, tableAt, table, mapOf}
 use Rattle.log.specs.Call.{Page, Block}
-use Rattle.log.proofs.RingLaws.{Fresh, ring-head}
+use Rattle.log.specs.Opening.{Fresh}
+use Rattle.log.proofs.RingLaws.{ring-head}
 use Rattle.log.proofs.MapMore.{alter-idle, mapV-alter, lookup-mapV, sorted-mapV}
 use Rattle.log.proofs.ReplayLaws.{replay-append, mapV-replay}
 use Rattle.log.proofs.Window.{page-block, page-place, page-at, page-unsealed, page-inj, block-ne}

@@ -5,7 +5,7 @@ use mathlib.Core.Path.{_≡_, refl, sym, ap, _∙_}
 use mathlib.Core.Logic.{_⊎_, inl, inr}
 use mathlib.Core.List.{List, [], _∷_}
 use mathlib.Core.Bool.{true, false, cond}
-use Prim.Native.Nat.{ℕ, suc, _+_, _-_, _*_, _%_, _≤_, _<_}
+use Prim.Native.Nat.{ℕ, suc, _+_, _*_, _%_, _≤_, _<_}
 use native.Mathlib.Omega.{arith}
 use lib.Dec.{leb}
 use lib.ListN.{length}
@@ -13,13 +13,11 @@ use Rattle.log.specs.Map.{Map, total, mapV}
 use Rattle.log.specs.Log.{Placed, oldest, run, bytes, pages}
 use Rattle.log.specs.Ring.{Chip, sealed, spare, Later, Ring, table}
 use Rattle.log.specs.Call.{Page}
-use Rattle.log.specs.Wear.{age, ages}
-use Rattle.log.proofs.RingLaws.{Fresh}
-use Rattle.log.proofs.WearLaws.{ripe, ripes}
+use Rattle.log.specs.Wear.{age, ages, ripe, ripes}
+use Rattle.log.specs.Opening.{Fresh, From}
 use Rattle.log.proofs.MapMore.{length-mapV}
 use Rattle.log.proofs.Window.{page-round, spare-cases}
 use Rattle.log.proofs.LogLaws.{up}
-use Rattle.log.proofs.Clean.{From}
 use Rattle.log.proofs.Steps.{Free, run-trim, run-drop, run-up, table-at, seal-run, seal-ring}
 
 module _ (B : ℕ) where

@@ -11,7 +11,7 @@ use Rattle.log.specs.Map.{lookup}
 use Rattle.log.specs.Log.{Placed, pageOf, oldest, run}
 use Rattle.log.specs.Ring.{Chip, sealed, spare, next}
 use Rattle.log.specs.Call.{Block, Erased, Wrote, CutWrote, State, resting, copying, Trace, erasing, erase-cut, first, skip, copy, copy-cut, seal, seal-cut, Leads, Cut}
-use Rattle.log.proofs.Opening.{fresh}
+use Rattle.log.specs.Opening.{fresh}
 
 module _ (B : ℕ) where
   -- ---- stretches

@@ -14,11 +14,12 @@ use Rattle.log.specs.Log.{pageOf, oldest}
 use Rattle.log.specs.Ring.{Chip, sealed, spare, Ring, head, table, room}
 use Rattle.log.specs.Call.{Page, Block, State, resting, copying, chipAt, Trace, stop, append, append-cut, erasing, erase-cut, first, skip, copy, copy-cut, seal, seal-cut}
 use Rattle.log.specs.Wear.{potential, weights, only, erasesOf, missed}
+use Rattle.log.specs.Opening.{fresh}
 use Rattle.log.proofs.Window.{page-unsealed}
 use Rattle.log.proofs.RingLaws.{ring-head, round-later}
 use Rattle.log.proofs.Steps.{Written, Spoilt, unsealed-ring, unsealed-full}
 use Rattle.log.proofs.Start.{blank-ring}
-use Rattle.log.proofs.Opening.{fresh, copy-still}
+use Rattle.log.proofs.Opening.{copy-still}
 use Rattle.log.proofs.Potential.{block-potential, unsealed-potential}
 use Rattle.log.proofs.Append.{place, put-paid, lost-paid}
 use Rattle.log.proofs.Crash.{append-written, append-cut-at, append-done, append-lost, erase-lost, skip-done, copy-done, copy-lost}

@@ -15,17 +15,9 @@ use lib.ListN.{length}
 use Rattle.log.specs.Key.{Key}
 use Rattle.log.specs.Map.{Map, lookup, alter, Sorted, total, mapO}
 use Rattle.log.specs.Log.{Placed, placed}
-use Rattle.log.specs.Wear.{age, ages, phi}
+use Rattle.log.specs.Wear.{age, ages, phi, ripe, ripes}
 use Rattle.log.proofs.MapLaws.{All, orZero}
 use Rattle.log.proofs.MapMore.{total-alter, total-step}
-
--- how many values are older than j: after j openings of a call, those that it has not moved
-abbrev pub ripe : ℕ → ℕ → Placed → ℕ
-ripe j e a = cond (leb (suc j) (age e a)) 1 0
-
--- and in a map
-abbrev pub ripes : ℕ → ℕ → Map Placed → ℕ
-ripes j e m = total (ripe j e) m
 
 -- ---- the sum of ages
 

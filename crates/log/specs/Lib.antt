@@ -5,3 +5,4 @@ pub mod Ring
 pub mod Answers
 pub mod Call
 pub mod Wear
+pub mod Opening

@@ -1,8 +1,8 @@
 -- Ages and the potential, by which openings are paid for (document 03, section 3). Nothing here mentions code. Assumes nothing.
 use mathlib.Core.Bool.{Bool, true, false, cond}
 use mathlib.Core.List.{List, [], _∷_}
-use Prim.Native.Nat.{ℕ, _+_, _-_, _*_, _/_}
-use lib.Dec.{eqb}
+use Prim.Native.Nat.{ℕ, suc, _+_, _-_, _*_, _/_}
+use lib.Dec.{eqb, leb}
 use Rattle.chip.specs.Play.{Op, erase, write}
 use Rattle.log.specs.Map.{Map, total}
 use Rattle.log.specs.Log.{Placed}
@@ -15,6 +15,14 @@ age e a = e + 1 - a .0 / 15
 -- the sum of the ages
 abbrev pub ages : ℕ → Map Placed → ℕ
 ages e m = total (age e) m
+
+-- how many values are older than j: after j openings of a call, those that it has not moved
+abbrev pub ripe : ℕ → ℕ → Placed → ℕ
+ripe j e a = cond (leb (suc j) (age e a)) 1 0
+
+-- and in a map
+abbrev pub ripes : ℕ → ℕ → Map Placed → ℕ
+ripes j e m = total (ripe j e) m
 
 -- the potential of a chip of b + 2 blocks, by the used places of the head and the sum of the ages
 abbrev pub phi : ℕ → ℕ → ℕ → ℕ

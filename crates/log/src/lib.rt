@@ -1,12 +1,24 @@
 // The log: which map a chip stands for, and what each step of the store does to it, whole and cut. This crate is theory: its definitions are in
-// specs/, in the order Key, Map, Log, Ring, Answers, Call, Wear; its laws in proofs/. It has no code but two numbers and a test of keys.
+// specs/, in the order Key, Map, Log, Ring, Answers, Call, Wear; its laws in proofs/. It has no code but numbers, the next
+// block of the ring, and a test of keys.
 ghost use mathlib.Core.Path.{_≡_};
-ghost use Prim.Native.Nat.{_≤_};
+ghost use Prim.Native.Nat.{_+_, _%_, _≤_, _<_};
 ghost use Rattle.log.specs.Answers.{printable, printed};
 ghost use Rattle.log.specs.Ring.{room, mostBlocks};
 
 // The most blocks that a chip of a store has (request 5 of document 02).
 pub const MOST_BLOCKS: usize = 4096;
+
+// How many places of a block take records; the page after them is its seal.
+pub const PLACES: usize = 15;
+
+// The block k after block h of the ring.
+pub fn block_after(h: usize, k: usize, b: usize) -> usize
+    requires { ⌜ (h < b) × (k ≤ 2) × (b ≤ mostBlocks) × (4 ≤ b) ⌝ }
+    ensures { λ r. ⌜ (r ≡ (h + k) % b) × (r < b) ⌝ }
+{
+    (h + k) % b
+}
 
 // How many keys a store of b blocks holds.
 pub fn room(b: usize) -> usize

@@ -14,17 +14,19 @@ use Rattle.record.specs.Record.{recAt, sealPage}
 use Rattle.log.specs.Log.{oldest, run, pages}
 use Rattle.log.specs.Ring.{Chip, chipOf, sealed, spare, table, room, Ready}
 use Rattle.log.specs.Call.{State, resting, copying, Block, Erased, Wrote, CutWrote, Leads, Cut}
+use Rattle.log.specs.Opening.{Opening, fresh, Moved}
 use Rattle.log.proofs.Index.{pages-length}
-use Rattle.log.proofs.Opening.{Opening, fresh, opening-erased, opening-fresh, opening-map, opening-ready}
-use Rattle.log.proofs.CallCost.{Moved, moved-start, moved-few, moved-open}
+use Rattle.log.proofs.Opening.{opening-erased, opening-fresh, opening-map, opening-ready}
+use Rattle.log.proofs.CallCost.{moved-start, moved-few, moved-open}
 use Rattle.log.proofs.RingLaws.{next-le}
 use Rattle.log.proofs.IndexSteps.{erased-keeps, first-keeps}
 use Rattle.log.proofs.Bytes.{wrote-seal, cut-seal, block-erased, whole-erased}
 use Rattle.log.proofs.Walk.{leads-none, leads-then, leads-cut, leads-erase, cut-erase, leads-first, leads-seal, cut-sealed}
-use Rattle.opening.specs.declared.Turn.{Turn}
-use Rattle.opening.specs.declared.Turn.the-variants.{On, Dark, Dirty}
+use Rattle.clean.specs.declared.Turn.{Turn}
+use Rattle.clean.specs.declared.Turn.the-variants.{On, Dark, Dirty}
 use Rattle.opening.specs.declared.Room.the-variants.{Place, Gone, Stuck}
-use Rattle.opening.specs.Steps.{midway, Turns, Clears, OpensBy, Seals, Fills, Opens, RoomsBy, Rooms}
+use Rattle.clean.specs.Steps.{midway, Turns}
+use Rattle.opening.specs.Steps.{Clears, OpensBy, Seals, Fills, Opens, RoomsBy, Rooms}
 use Rattle.opening.proofs.Runs.{seal-writable}
 
 -- memory that is ready has no more rows than there is room for
@@ -212,7 +214,7 @@ module _ (B : ℕ) (big : 4 ≤ B) (n h x : ℕ) (noise c : List ℕ) (f : ℕ) 
   pub record Going (d : List ℕ) (g : ℕ) (ix₁ : List ℕ) (k y left : ℕ) : Type 0 where
     pub did : Did (B - 2 - left) (16 * (B - 2 - left)) noise c f d g
     pub right : 0 < f → Ready B (chipOf c) h x (take n ix)
-        → RoomsBy B n h c d g ix₁ (did .ops) (Place k y) × ((K : ℕ) × Moved B big (chipOf d) k (B - 2 - left) K)
+        → RoomsBy B n h c d g ix₁ (did .ops) (Place k y) × ((K : ℕ) × Moved B (chipOf d) k (B - 2 - left) K)
 
   -- none yet
   pub going-none : Going c f ix h x (B - 2)
@@ -222,7 +224,7 @@ module _ (B : ℕ) (big : 4 ≤ B) (n h x : ℕ) (noise c : List ℕ) (f : ℕ) 
         did = did-more (omega arith) (omega arith) (did-none c f);
         right = λ lit r.
             let z : 0 ≡ B - 2 - (B - 2) = omega arith in
-            ((lit, r, refl, leads-none B (resting (chipOf c) h)), (0, subst (λ (j : ℕ). Moved B big (chipOf c) h j 0) z (moved-start B big (chipOf c) h (few-rows B (chipOf c) h x (take n ix) r))));
+            ((lit, r, refl, leads-none B (resting (chipOf c) h)), (0, subst (λ (j : ℕ). Moved B (chipOf c) h j 0) z (moved-start B big (chipOf c) h (few-rows B (chipOf c) h x (take n ix) r))));
       }
 
   -- the head by another name
@@ -245,7 +247,7 @@ module _ (B : ℕ) (big : 4 ≤ B) (n h x : ℕ) (noise c : List ℕ) (f : ℕ) 
               let j : suc (B - 2 - left) ≡ B - 2 - (left - 1) = omega arith in
               let w = o .1 .progress big (B - 2 - left) (q .1 .0) (q .1 .1) in (
                 (o .0, o .1 .ready, o .1 .map ∙ q .0 .2, leads-then B (q .0 .3) (o .2)),
-                (w .0, subst (λ (z : ℕ). Moved B big (chipOf e) (spare B k) z (w .0)) j (w .1)),
+                (w .0, subst (λ (z : ℕ). Moved B (chipOf e) (spare B k) z (w .0)) j (w .1)),
               );
         }
 

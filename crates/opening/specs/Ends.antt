@@ -1,35 +1,7 @@
--- What the functions of this crate are given, and the ranges of what they answer. Assumes nothing.
-use mathlib.Core.Path.{_≡_}
-use mathlib.Core.List.{List}
-use Prim.Native.Nat.{ℕ, _*_, _≤_, _<_}
-use lib.ListN.{length}
-use Rattle.log.specs.Ring.{mostBlocks}
-use Rattle.opening.specs.declared.Live.{Live}
-use Rattle.opening.specs.declared.Live.the-variants.{Yes, No}
-use Rattle.opening.specs.declared.Turn.{Turn}
-use Rattle.opening.specs.declared.Turn.the-variants.{On, Dark, Dirty}
+-- The range of what is answered. Assumes nothing.
+use Prim.Native.Nat.{ℕ, _<_}
 use Rattle.opening.specs.declared.Room.{Room}
 use Rattle.opening.specs.declared.Room.the-variants.{Place, Gone, Stuck}
-
--- a chip of B blocks with the head h, an index of n entries, and noise: ranges alone, which the public calls test
-pub record Sane (B : ℕ) (c ix noise : List ℕ) (n h : ℕ) : Type 0 where
-  pub some-blocks : 4 ≤ B
-  pub few-blocks : B ≤ mostBlocks
-  pub size : length c ≡ 4096 * B
-  pub entries : n ≤ length ix
-  pub loud : length noise ≡ 4096
-  pub inside : h < B
-
--- the entry of a live value is one of n
-abbrev pub LiveWithin : ℕ → Live → Type 0
-LiveWithin n (Yes j) = j < n
-LiveWithin n No = Unit {0}
-
--- at most 15 places are used
-abbrev pub Few : Turn → Type 0
-Few (On k) = k ≤ 15
-Few Dark = Unit {0}
-Few Dirty = Unit {0}
 
 -- the place is one of a block of the chip
 abbrev pub RoomWithin : ℕ → Room → Type 0

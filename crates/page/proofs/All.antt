@@ -2,9 +2,9 @@
 use mathlib.Core.Path.{_≡_, refl, sym, ap, _∙_}
 use mathlib.Core.Bool.{Bool, true, false, _&&_, true≢false}
 use mathlib.Core.Logic.{⊎-elim}
-use Prim.Native.Nat.{ℕ, zero, suc, _+_, _<_}
+use Prim.Native.Nat.{ℕ, zero, suc, _+_, _≤_, _<_}
 use native.Mathlib.Nat.{not-suc-le-zero, le-of-suc-le-suc, eq-or-lt-of-le}
-use native.Mathlib.Numerals.{add-one}
+use native.Mathlib.Numerals.{add-one, unary-clauses}
 use native.Mathlib.Omega.{arith}
 use Rattle.page.specs.Page.{all}
 
@@ -49,3 +49,19 @@ module _ (p : ℕ → Bool) where
       go : (b : Bool) → all p n ≡ b → b ≡ false
       go true h = absurd (true≢false (sym (all-at n i l h) ∙ e))
       go false h = refl
+
+  -- of the first m, and then of n more
+  pub all-join : (m n : ℕ) → all p m ≡ true → all (λ i. p (m + i)) n ≡ true → all p (m + n) ≡ true
+  unfolding all
+  all-join m zero h t = simp unary-clauses h
+  all-join m (suc n) h t =
+      simp unary-clauses
+      (and-true (all p (m + n)) (p (m + n)) (all-join m n h (and-left (all (λ i. p (m + i)) n) (p (m + n)) t)) (and-right (all (λ i. p (m + i)) n) (p (m + n)) t))
+
+-- a run that fails is enough
+pub run-fails : (p : ℕ → Bool) (m n k : ℕ) → m + n ≤ k → all (λ i. p (m + i)) n ≡ false → all p k ≡ false
+run-fails p m n k l e = go (all p k) refl
+  where
+    go : (b : Bool) → all p k ≡ b → b ≡ false
+    go true h = absurd (true≢false (sym (all-of (λ i. p (m + i)) n (λ i b. all-at p k (m + i) (omega arith) h)) ∙ e))
+    go false h = refl

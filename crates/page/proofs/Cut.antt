@@ -6,13 +6,13 @@ use Prim.Native.Nat.{ℕ, zero, suc, _+_, _-_, _≤_, _<_, zero-le}
 use native.Mathlib.Nat.{le-refl, mod-eq-of-lt, not-suc-le-zero, le-of-suc-le-suc}
 use native.Mathlib.Decide.{decLt}
 use native.Mathlib.Omega.{arith}
-use lib.ListN.{length}
+use lib.ListN.{length, take}
 use lib.Seq.{ext-getD}
 use lib.Bits.{bitOr, bitAnd, or-add-and, and-le-r, and-comm, and-mask}
 use borrow.Author.Tests.{eq-eqb, eqb-true}
-use Rattle.page.specs.Page.{byte, Bytes, blank, sound, each, ors, ands}
+use Rattle.page.specs.Page.{byte, Bytes, blank, sound, form, each, ors, ands}
 use Rattle.page.proofs.All.{all-at, all-of}
-use Rattle.page.proofs.Forms.{sound-at}
+use Rattle.page.proofs.Forms.{sound-at, length-form, form-sound, payload-of}
 
 -- what a blank page says of each byte
 pub blank-at : (pg : List ℕ) → blank pg ≡ true → (i : ℕ) → i < 256 → byte pg i ≡ 255
@@ -85,3 +85,18 @@ sound-same pg ns len h s = ext-getD 0 (ors pg ns) pg (length-each bitOr pg ns) (
         let m : j < 128 = omega arith in
         let k : byte (ors pg ns) (128 + j) ≡ byte pg (128 + j) = omega (arith, sound-at pg h j m, sound-at (ors pg ns) s j m, ors-grow pg ns j, ors-grow pg ns (128 + j)) in
         ap (byte (ors pg ns)) (sym e) ∙ k ∙ ap (byte pg) e
+
+-- of two lists of one length it is the second, whatever the first is
+pub each-second : (xs ys : List ℕ) → length xs ≡ length ys → each (λ x y. y) xs ys ≡ ys
+unfolding each
+each-second [] [] e = refl
+each-second [] (y ∷ ys) e = absurd (omega (arith, e))
+each-second (x ∷ xs) [] e = absurd (omega (arith, e))
+each-second (x ∷ xs) (y ∷ ys) e = ap (λ (l : List ℕ). y ∷ l) (each-second xs ys (omega (arith, e)))
+
+-- THE PAGE LAW RESTS ON NOISE THAT TURNS BITS ONE WAY: with noise that turned them both ways, the page of p, cut short, could read as the sound page of any q
+pub both-ways : (p q : List ℕ) → length p ≡ 128 → length q ≡ 128 → Bytes q
+    → (sound (each (λ x y. y) (form p) (form q)) ≡ true) × (take 128 (each (λ x y. y) (form p) (form q)) ≡ q)
+both-ways p q h k small =
+    let e : each (λ x y. y) (form p) (form q) ≡ form q = each-second (form p) (form q) (length-form p h ∙ sym (length-form q k)) in
+    (ap sound e ∙ form-sound q k small, ap (λ (l : List ℕ). take 128 l) e ∙ payload-of q k)

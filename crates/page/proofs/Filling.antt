@@ -16,12 +16,12 @@ module _ (d : List ℕ) (h : length d ≡ 256) where
   pub fill-start : d ≡ grown 128 (form (take 128 d)) d
   fill-start = grown-from 128 _ d (payload-of (take 128 d) long)
 
-  pub fill-turn : (i : ℕ) (pg : List ℕ) (v : ℕ) → i < 128 → pg ≡ grown (128 + i) (form (take 128 d)) d → v ≡ 255 - byte pg i
-      → set pg (128 + i) v ≡ grown (128 + (i + 1)) (form (take 128 d)) d
-  fill-turn i pg v l e w =
+  pub fill-turn : (i : ℕ) (pg : List ℕ) (k v : ℕ) → i < 128 → k ≡ 128 + i → pg ≡ grown (128 + i) (form (take 128 d)) d → v ≡ 255 - byte pg i
+      → set pg k v ≡ grown (128 + (i + 1)) (form (take 128 d)) d
+  fill-turn i pg k v l q e w =
       let n : length (form (take 128 d)) ≡ 256 = length-form (take 128 d) long in
       let m : 128 + i + 1 ≡ 128 + (i + 1) = omega arith in
-      grown-more (128 + i) _ d pg v e
+      ap (λ (j : ℕ). set pg j v) q ∙ grown-more (128 + i) _ d pg v e
       (w ∙ ap (λ (x : ℕ). 255 - x) (grown-before (128 + i) _ d pg e (omega arith) i (omega arith) ∙ form-low (take 128 d) long i l)
       ∙ sym (form-high (take 128 d) long i l))
       (omega arith) (omega arith)

@@ -1,24 +1,21 @@
 -- Laws of flipped bytes and of the page of a payload. Assumes nothing.
 use mathlib.Core.Path.{_≡_, refl, sym, ap, _∙_}
-use mathlib.Core.Bool.{true}
+use mathlib.Core.Logic.{_≢_}
+use mathlib.Core.Bool.{Bool, true, false}
 use mathlib.Core.List.{List, [], _∷_, _++_, map}
 use Prim.Native.Nat.{ℕ, zero, suc, _+_, _-_, _<_}
 use native.Mathlib.Nat.{not-suc-le-zero, le-of-suc-le-suc}
-use native.Mathlib.Decide.{ℕ-discrete}
 use native.Mathlib.Omega.{arith}
 use lib.ListN.{length, take, length-append, length-map, List·getD-append}
 use lib.Seq.{getD-append-add, take-at}
-use lib.Dec.{eqb}
 use borrow.Author.Tests.{eq-eqb, ne-eqb, eqb-true}
 use Rattle.page.specs.Page.{byte, Bytes, flips, sound, form}
 use Rattle.page.proofs.All.{all-at, all-of}
 
--- 255 minus x, as code tests it
-pub flip-test : (x y : ℕ) → x < 256 → eqb y (255 - x) ≡ flips x y
-flip-test x y h = elim (ℕ-discrete (x + y) 255) [
-  | yes e ↦ eq-eqb y (255 - x) (omega arith) ∙ sym (eq-eqb (x + y) 255 e)
-  | no n ↦ ne-eqb y (255 - x) (λ e. n (omega arith)) ∙ sym (ne-eqb (x + y) 255 n)
-]
+-- a test that holds of 255 minus x alone, however the code writes it
+pub flip-test : (x y : ℕ) (t : Bool) → (t ≡ true → x + y ≡ 255) → (t ≡ false → x + y ≢ 255) → t ≡ flips x y
+flip-test x y true is not = sym (eq-eqb (x + y) 255 (is refl))
+flip-test x y false is not = sym (ne-eqb (x + y) 255 (not refl))
 
 -- what a sound page says of each pair of bytes
 pub sound-at : (pg : List ℕ) → sound pg ≡ true → (i : ℕ) → i < 128 → byte pg i + byte pg (128 + i) ≡ 255

@@ -1,4 +1,5 @@
 pub mod All
+pub mod Runs
 pub mod Grow
 pub mod Forms
 pub mod Filling

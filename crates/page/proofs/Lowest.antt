@@ -2,13 +2,17 @@
 use mathlib.Core.Path.{_≡_, sym, ap, _∙_}
 use mathlib.Core.Bool.{Bool, true, false, cond}
 use mathlib.Core.List.{List}
-use Prim.Native.Nat.{ℕ, zero, suc, _<_}
+use Prim.Native.Nat.{ℕ, zero, suc, _+_, _<_}
 use native.Mathlib.Decide.{ℕ-discrete}
 use native.Mathlib.Omega.{arith}
-use Rattle.page.specs.Page.{all, blank, sound}
+use Rattle.page.specs.Page.{byte, all, flips, blank, sound}
 use Rattle.page.specs.Look.{agree, lowest, lookOf, Apart}
 use Rattle.page.specs.declared.Look.the-variants.{Blank, Sound, Spoilt}
 use Rattle.page.proofs.All.{all-fails}
+
+-- byte k and its copy at n, however the code says where that is
+pub agree-at : (pg : List ℕ) (k n : ℕ) (r : Bool) → r ≡ flips (byte pg k) (byte pg n) → n ≡ 128 + k → r ≡ agree pg k
+agree-at pg k n r e q = e ∙ ap (λ (j : ℕ). flips (byte pg k) (byte pg j)) q
 
 module _ (p : ℕ → Bool) where
   -- it holds below i, and not of i

@@ -24,6 +24,10 @@ all p (suc n) = all p n && p n
 unfoldable pub blank : List ℕ → Bool
 blank pg = all (λ i. eqb (byte pg i) 255) 256
 
+-- and so is a run of it, the 64 bytes from byte m on, when these do
+unfoldable pub blankRun : List ℕ → ℕ → Bool
+blankRun pg m = all (λ i. eqb (byte pg (m + i)) 255) 64
+
 -- y is 255 minus x. (As a sum, so that no number above 255 passes for a byte.)
 abbrev pub flips : ℕ → ℕ → Bool
 flips x y = eqb (x + y) 255

@@ -1,17 +1,22 @@
 -- What is seen, page by page; and that the counts add up. Assumes nothing.
 use mathlib.Core.Path.{_≡_, refl, sym, ap, _∙_}
+use mathlib.Core.Logic.{_≢_}
+use mathlib.Core.Bool.{Bool, true, false, true≢false}
 use mathlib.Core.List.{List, [], _∷_}
 use mathlib.Core.Option.{Option, none, some}
-use Prim.Native.Nat.{ℕ, zero, suc, _+_, _<_}
+use Prim.Native.Nat.{ℕ, zero, suc, _+_, _/_, _<_}
 use native.Mathlib.Numerals.{add-one}
 use native.Mathlib.Omega.{arith}
+use borrow.Author.Tests.{eq-eqb, ne-eqb, eqb-true, eqb-false}
 use lib.ListN.{length, set}
 use Rattle.page.specs.Look.{lookOf}
 use Rattle.page.specs.declared.Look.{Look}
 use Rattle.page.specs.declared.Look.the-variants.{Blank, Sound, Spoilt}
 use Rattle.chip.specs.Chip.{pageAt}
+use Rattle.lent.specs.declared.Answer.{Answer}
+use Rattle.lent.specs.declared.Answer.the-variants.{Done, Refused}
 use Rattle.survey.specs.declared.Seen.{Seen}
-use Rattle.survey.specs.Seen.{blankOne, soundOne, spoiltOne, count, spoiltAt, orFirst, firstSpoilt, pageIn, byteIn, seenOf, Small, SeesOne}
+use Rattle.survey.specs.Seen.{blankOne, soundOne, spoiltOne, count, spoiltAt, orFirst, firstSpoilt, pageIn, byteIn, seenOf, Small, SeesOne, numbers, hasRead, Sees}
 
 abbrev saw : ℕ → ℕ → ℕ → ℕ → ℕ → Seen
 saw a b d x i = record { blank = a; sound = b; spoilt = d; page = x; byte = i }
@@ -154,8 +159,8 @@ module _ (s : Seen) (p : ℕ) (small : Small p s) where
 pub small-next : (k : Look) (p : ℕ) (s r : Seen) → SeesOne k p s r → Small (p + 1) r
 small-next k p s r y = record { is = omega (arith, y .small .is) }
 
-pub seen-next : (c : List ℕ) (k : Look) (p : ℕ) (s r : Seen) → SeesOne k p s r → s ≡ seenOf c p → k ≡ lookOf (pageAt c p) → r ≡ seenOf c (p + 1)
-seen-next c k p s r y h e = y .one c h e ∙ ap (seenOf c) (sym (add-one p))
+pub seen-next : (c : List ℕ) (k : Look) (p q : ℕ) (s r : Seen) → SeesOne k p s r → s ≡ seenOf c p → k ≡ lookOf (pageAt c q) → q ≡ p → r ≡ seenOf c (p + 1)
+seen-next c k p q s r y h e n = y .one c h (e ∙ ap (λ (x : ℕ). lookOf (pageAt c x)) n) ∙ ap (seenOf c) (sym (add-one p))
 
 pub seen-all : (c : List ℕ) (p n : ℕ) (s : Seen) → p ≡ n → s ≡ seenOf c p → s ≡ seenOf c n
 seen-all c p n s e h = h ∙ ap (seenOf c) e
@@ -169,3 +174,18 @@ five-set (_ ∷ _ ∷ _ ∷ []) a b d x i e = absurd (omega arith)
 five-set (_ ∷ _ ∷ _ ∷ _ ∷ []) a b d x i e = absurd (omega arith)
 five-set (_ ∷ _ ∷ _ ∷ _ ∷ _ ∷ []) a b d x i e = refl
 five-set (_ ∷ _ ∷ _ ∷ _ ∷ _ ∷ _ ∷ l) a b d x i e = absurd (omega arith)
+
+-- a test that holds of 8 alone, however the code writes it
+pub is-eight : (r : Answer) (k : ℕ) → r ≡ Refused k → (t : Bool) → (t ≡ true → k ≡ 8) → (t ≡ false → k ≢ 8) → t ≡ hasRead r
+is-eight r k e true is not = sym (ap hasRead e ∙ eq-eqb k 8 (is refl))
+is-eight r k e false is not = sym (ap hasRead e ∙ ne-eqb k 8 (not refl))
+
+-- the numbers by how the start ended
+module _ (c l l′ : List ℕ) where
+  pub sees-read : (r : Answer) → hasRead r ≡ true → l′ ≡ numbers (seenOf c (length c / 256)) → Sees c l l′ r
+  sees-read (Done n) h e = record { ends = e }
+  sees-read (Refused k) h e = record { ends = (λ q. e, λ q. absurd (q (eqb-true k 8 h))) }
+
+  pub sees-unread : (r : Answer) → hasRead r ≡ false → l′ ≡ l → Sees c l l′ r
+  sees-unread (Done n) h e = absurd (true≢false h)
+  sees-unread (Refused k) h e = record { ends = (λ q. absurd (eqb-false k 8 h q), λ q. e) }

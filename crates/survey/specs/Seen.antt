@@ -1,15 +1,18 @@
 -- What a start saw: how many pages of each of the three kinds, and where the first spoilt one is (request 2 of document 02). Assumes nothing.
 use mathlib.Core.Path.{_≡_}
+use mathlib.Core.Logic.{_≢_}
+use mathlib.Core.Bool.{Bool, true}
 use mathlib.Core.List.{List, [], _∷_}
 use mathlib.Core.Option.{Option, none, some}
 use Prim.Native.Nat.{ℕ, zero, suc, _+_, _/_, _≤_}
+use lib.Dec.{eqb}
 use lib.ListN.{length}
 use Rattle.page.specs.Look.{lookOf}
 use Rattle.page.specs.declared.Look.{Look}
 use Rattle.page.specs.declared.Look.the-variants.{Blank, Sound, Spoilt}
 use Rattle.chip.specs.Chip.{pageAt}
-use Rattle.store.specs.declared.Answer.{Answer}
-use Rattle.store.specs.declared.Answer.the-variants.{Done, Refused}
+use Rattle.lent.specs.declared.Answer.{Answer}
+use Rattle.lent.specs.declared.Answer.the-variants.{Done, Refused}
 use Rattle.survey.specs.declared.Seen.{Seen}
 
 -- 1 for a page of the kind, 0 for another
@@ -83,10 +86,15 @@ numbers s = s .blank ∷ s .sound ∷ s .spoilt ∷ s .page ∷ s .byte ∷ []
 pub record Noted (l : List ℕ) (s : Seen) : Type 0 where
   pub is : l ≡ numbers s
 
--- done, they are those of all pages; refused, they are as they were
+-- a start that ended so read the chip: it is done, or it is refused with 8, for these bytes are no store
+abbrev pub hasRead : Answer → Bool
+hasRead (Done n) = true
+hasRead (Refused k) = eqb k 8
+
+-- done, or refused with 8, they are those of all pages; refused with another number, they are as they were
 abbrev pub SeesBy : List ℕ → List ℕ → List ℕ → Answer → Type 0
 SeesBy c l l′ (Done n) = l′ ≡ numbers (seenOf c (length c / 256))
-SeesBy c l l′ (Refused k) = l′ ≡ l
+SeesBy c l l′ (Refused k) = (k ≡ 8 → l′ ≡ numbers (seenOf c (length c / 256))) × (k ≢ 8 → l′ ≡ l)
 
 pub record Sees (c l l′ : List ℕ) (r : Answer) : Type 0 where
   pub ends : SeesBy c l l′ r

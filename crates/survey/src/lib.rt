@@ -1,13 +1,13 @@
 // A start that also says what it saw (request 2 of document 02): how many pages are blank, sound and spoilt, and where the first spoilt one is.
 // The store's own start stays as it is. The definitions are in specs/Seen.antt.
+use lent::Answer;
 use page::Look;
-use store::Answer;
 ghost use mathlib.Core.Path.{_≡_};
 ghost use Prim.Native.Nat.{_*_, _/_, _≤_, _<_};
 ghost use lib.ListN.{length};
 ghost use Rattle.page.specs.declared.Look.the-variants.{Spoilt};
-ghost use Rattle.store.specs.Calls.{StartEnds};
-ghost use Rattle.survey.specs.Seen.{seenOf, Small, SeesOne, Noted, Sees};
+ghost use Rattle.start.specs.Started.{StartEnds};
+ghost use Rattle.survey.specs.Seen.{seenOf, Small, SeesOne, Noted, hasRead, Sees};
 
 // How many pages are blank, sound and spoilt; the first spoilt one, and its lowest byte that disagrees with its copy (0 and 0 if there is none).
 pub struct Seen {
@@ -97,16 +97,24 @@ fn put_down(seen: &mut [u64], s: Seen)
     seen[4] = s.byte;
 }
 
-// The store's start; and where it is done, what it saw of every page.
+// Whether a start that ended so was lent allowed lengths and power, and so read the chip: it is done, or these bytes are no store.
+fn has_read(answer: Answer) -> bool
+    ensures { λ r. ⌜ r ≡ hasRead answer ⌝ }
+{
+    match answer {
+        Answer::Done(_) => true,
+        Answer::Refused(k) => k == 8,
+    }
+}
+
+// The store's start; and, done or refused with 8, what it saw of every page. Refused with 5 or 7 it leaves the numbers as they were.
 pub fn start_seeing(chip: &[u8], work: &mut [u32], fuse: &u64, seen: &mut [u64; 5]) -> Answer
     ensures start { λ r. ⌜ StartEnds (now (chip .entry)) (now (fuse .entry)) (now (work .entry)) (now (work .exit)) r ⌝ }
     ensures saw { λ r. ⌜ Sees (now (chip .entry)) (now (seen .entry)) (now (seen .exit)) r ⌝ }
 {
-    match store::start(chip, work, fuse) {
-        Answer::Done(n) => {
-            put_down(seen, survey(chip, chip.len() / 256));
-            Answer::Done(n)
-        }
-        Answer::Refused(k) => Answer::Refused(k),
+    let answer = start::start(chip, work, fuse);
+    if has_read(answer) {
+        put_down(seen, survey(chip, chip.len() / 256));
     }
+    answer
 }

@@ -24,7 +24,7 @@ loop-again : tie.Need-loop-again Inv-loop μ-loop
 loop-again c =
     let at = c .before .before .before .before in
     let st = at .before .before .before in
-    (refl, search needs, simp length-set (at .loop .inv .2), each-turn (turned (st .args .set)) (st .args .dst .now) (st .args .src .now) _ (at .loop .i) (search needs) (omega arith) (at .loop .inv .3) (c .laid .ensures))
+    (refl, search needs, simp length-set (at .loop .inv .2), each-turn (turned (st .args .set)) (st .args .dst .now) (st .args .src .now) _ (at .loop .i) (search needs) (omega arith) (at .loop .inv .3) _ _ (c .laid .ensures) (omega arith))
 
 returns : tie.Need-returns Inv-loop μ-loop
 returns c =

@@ -7,13 +7,13 @@ use Rattle.keys.proofs.next.Statement.{statement}
 use Rattle.keys.proofs.next.Tie as tie
 
 returns : tie.Need-returns
-returns c = let a = c .before .before .before .before .before .before .before .args in (
+returns c = let a = c .before .before .before .before .before .before .args in (
   record { ends = refl },
   next-refused (a .chip .now) (a .fuse .now) (a .work .now) (a .key .now) (a .buffer .now) (a .buffer .now) _ (omega arith) (c .before .unready .ensures),
 )
 
 returns-2 : tie.Need-returns-2
-returns-2 c = let a = c .before .before .before .before .before .before .before .before .args in (
+returns-2 c = let a = c .before .before .before .before .before .before .before .args in (
   record { ends = refl },
   next-long (a .chip .now) (a .fuse .now) (a .work .now) (a .key .now) (a .buffer .now) (a .buffer .now) _ (omega arith) (c .before .before .unready .ensures) _ (omega arith) (omega arith),
 )
@@ -31,7 +31,7 @@ hand-next-requires : tie.Need-hand-next-requires
 hand-next-requires c κs = let k = c .before .before .before .before .before .before .unready .ensures .checked (omega arith) in omega (arith, c .before .before .word .ensures, k .few, k .sized .long)
 
 returns-3 : tie.Need-returns-3
-returns-3 c = let a = c .before .before .before .before .before .before .before .before .before .before .before .before .before .before .before .args in (
+returns-3 c = let a = c .before .before .before .before .before .before .before .before .before .before .before .before .before .before .args in (
   c .before .before .hand-next .ensures .0,
   next-handed (a .chip .now) (a .fuse .now) (a .work .now) (a .key .now) (a .buffer .now) _ _ (omega arith) (c .before .before .before .before .before .before .before .before .before .unready .ensures) (c .before .before .before .before .before .word .result) _ (omega arith)
       (c .before .before .before .before .before .word .ensures) (c .before .before .hand-next .ensures .1),

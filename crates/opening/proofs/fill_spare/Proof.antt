@@ -1,7 +1,7 @@
 -- `opening::fill_spare` meets its contract. Assumes nothing.
 use mathlib.Core.Path.{_∙_, subst}
-use Rattle.opening.specs.Ends.{Few}
-use Rattle.opening.specs.Steps.{Turns}
+use Rattle.clean.specs.Ends.{Few}
+use Rattle.clean.specs.Steps.{Turns}
 use Rattle.opening.proofs.Opens.{fills-sealed, fills-dark, fills-dirty}
 use borrow.Author.Needs.{needs}
 use Rattle.opening.proofs.fill_spare.Statement.{statement}

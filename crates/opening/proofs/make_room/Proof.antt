@@ -3,9 +3,9 @@ use mathlib.Core.Path.{_≡_, refl, sym, _∙_, subst}
 use Prim.Native.Nat.{_-_, _≤_, _<_}
 use native.Mathlib.Omega.{arith}
 use lib.ListN.{length}
-use Rattle.opening.specs.Ends.{Few}
+use Rattle.clean.specs.Ends.{Few}
 use Rattle.opening.specs.Steps.{Opens}
-use Rattle.opening.proofs.Runs.{sane-moved}
+use Rattle.clean.proofs.Runs.{sane-moved}
 use Rattle.opening.proofs.Opens.{Going, going-none, going-at, going-on, going-dark, going-dirty, room-found, room-none}
 use borrow.Author.Needs.{needs}
 use Rattle.opening.proofs.make_room.Statement.{statement}

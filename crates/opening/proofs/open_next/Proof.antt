@@ -1,7 +1,7 @@
 -- `opening::open_next` meets its contract. Assumes nothing.
 use mathlib.Core.Path.{refl, subst}
 use Rattle.opening.specs.Steps.{Clears}
-use Rattle.opening.proofs.Runs.{sane-moved}
+use Rattle.clean.proofs.Runs.{sane-moved}
 use Rattle.opening.proofs.Opens.{opens-filled, opens-dark}
 use borrow.Author.Needs.{needs}
 use Rattle.opening.proofs.open_next.Statement.{statement}

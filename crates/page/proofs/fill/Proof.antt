@@ -23,7 +23,7 @@ loop-again : tie.Need-loop-again Inv-loop μ-loop
 loop-again c =
     let at = c .before .before .before in
     let st = at .before .before in
-    (search needs, simp length-set (at .loop .inv .1), fill-turn (st .args .page .now) (st .pre) (at .loop .j) _ _ (omega arith) (at .loop .inv .2) (c .flip .ensures))
+    (search needs, simp length-set (at .loop .inv .1), fill-turn (st .args .page .now) (st .pre) (at .loop .j) _ _ _ (omega arith) (omega arith) (at .loop .inv .2) (c .flip .ensures))
 
 returns : tie.Need-returns Inv-loop μ-loop
 returns c =

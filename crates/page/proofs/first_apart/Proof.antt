@@ -7,6 +7,7 @@ use borrow.Author.Tests.{not-true, not-false}
 use Rattle.page.specs.Page.{all}
 use Rattle.page.specs.Look.{agree}
 use Rattle.page.proofs.All.{all-more}
+use Rattle.page.proofs.Lowest.{agree-at}
 use borrow.Author.Needs.{needs}
 use Rattle.page.proofs.first_apart.Statement.{statement}
 use Rattle.page.proofs.first_apart.Tie as tie
@@ -22,10 +23,16 @@ unfolding all
 loop-holds c = (omega arith, refl)
 
 returns : tie.Need-returns Inv-loop μ-loop
-returns c = record { within = c .before .before .before .before .before .loop .inv .0; below = c .before .before .before .before .before .loop .inv .1; here = λ l. sym (c .before .flips .ensures) ∙ not-true _ (c .if1 .taken) }
+returns c =
+    let at = c .before .before .before .before .before in
+    let same = agree-at (at .before .before .args .page .now) (at .loop .k) _ _ (c .before .flips .ensures) (omega arith) in
+    record { within = at .loop .inv .0; below = at .loop .inv .1; here = λ l. sym same ∙ not-true _ (c .if1 .taken) }
 
 loop-again : tie.Need-loop-again Inv-loop μ-loop
-loop-again c = (omega arith, sym (all-more (agree (c .before .before .before .before .before .before .before .args .page .now)) (c .before .before .before .before .before .loop .k) true true (sym (c .before .before .before .before .before .loop .inv .1)) (sym (sym (c .before .flips .ensures) ∙ not-false _ (c .if1 .left)))))
+loop-again c =
+    let at = c .before .before .before .before .before in
+    let same = agree-at (at .before .before .args .page .now) (at .loop .k) _ _ (c .before .flips .ensures) (omega arith) in
+    (omega arith, sym (all-more _ (at .loop .k) true true (sym (at .loop .inv .1)) (sym (sym same ∙ not-false _ (c .if1 .left)))))
 
 returns-2 : tie.Need-returns-2 Inv-loop μ-loop
 returns-2 c = record { within = c .before .loop .inv .0; below = c .before .loop .inv .1; here = λ l. absurd (omega arith) }

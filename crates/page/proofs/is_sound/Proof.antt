@@ -5,6 +5,7 @@ use native.Mathlib.Omega.{arith}
 use borrow.Author.Needs.{needs}
 use Rattle.page.specs.Page.{byte, all, flips, sound}
 use Rattle.page.proofs.All.{all-more, all-done}
+use Rattle.page.proofs.Lowest.{agree-at}
 use Rattle.page.proofs.is_sound.Statement.{statement}
 use Rattle.page.proofs.is_sound.Tie as tie
 
@@ -19,7 +20,9 @@ unfolding all
 loop-holds c = (omega arith, refl)
 
 loop-again : tie.Need-loop-again Inv-loop μ-loop
-loop-again c = (search needs, all-more _ _ _ _ (c .before .before .before .before .loop .inv .1) (c .flips .ensures))
+loop-again c =
+    let at = c .before .before .before .before in
+    (search needs, all-more _ _ _ _ (at .loop .inv .1) (agree-at (at .before .before .args .page .now) (at .loop .i) _ _ (c .flips .ensures) (omega arith)))
 
 returns : tie.Need-returns Inv-loop μ-loop
 unfolding sound

@@ -9,7 +9,7 @@ add-t5 : tie.Need-add-t5
 add-t5 c = omega (arith, c .before .before .before .pre .0 .is)
 
 returns : tie.Need-returns
-returns c = see-first _ _ (c .before .before .before .pre .0) _ _ _ (c .before .if1 .taken) refl refl
+returns c = see-first _ _ (c .before .before .before .pre .0) _ _ _ (omega (arith, c .before .if1 .taken)) refl refl
 
 add-t8 : tie.Need-add-t8
 add-t8 c = omega (arith, c .before .before .before .pre .0 .is)

@@ -25,7 +25,7 @@ see-requires c κs = (c .before .before .loop .inv .1, omega (arith, c .before .
 
 loop-again : tie.Need-loop-again Inv-loop μ-loop
 loop-again c = let l = c .before .before .before .loop in
-    (omega arith, small-next _ _ _ _ (c .see .ensures), seen-next _ _ _ _ _ (c .see .ensures) (l .inv .2) (c .before .look-at .ensures))
+    (omega arith, small-next _ _ _ _ (c .see .ensures), seen-next _ _ _ _ _ _ (c .see .ensures) (l .inv .2) (c .before .look-at .ensures) (omega arith))
 
 returns : tie.Need-returns Inv-loop μ-loop
 returns c = let l = c .before .loop in seen-all _ _ _ _ (omega arith) (l .inv .2)

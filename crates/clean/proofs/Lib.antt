@@ -1,0 +1,3 @@
+pub mod Runs
+pub mod Judge
+pub mod Turns

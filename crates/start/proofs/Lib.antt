@@ -1,0 +1,3 @@
+pub mod Bridge
+pub mod Scan
+pub mod Starts

@@ -1,0 +1,162 @@
+// Erase and write under the fault scripts 0 (the power is gone), 1 (it goes during the operation) and 2 (it stays), each with noise of all zeros,
+// of all ones, mixed, and forged: a block full of sound pages. For each: the page's first byte and its copy, the sums of the page's halves, what the page is,
+// what is left of the script, and how many bytes elsewhere changed.
+use record::Kind;
+use trying::number;
+use trying::text;
+ghost use mathlib.Core.Path.{_≡_};
+ghost use Prim.Native.Nat.{_+_, _*_, _≤_};
+ghost use lib.ListN.{length};
+
+fn print_noise(which: usize) {
+    match which {
+        0 => text(b", noise all zeros:"),
+        1 => text(b", noise all ones: "),
+        2 => text(b", noise mixed:    "),
+        _ => text(b", noise forged:   "),
+    }
+}
+
+// The sum of the bytes of half a page, so that no byte of it goes untold.
+fn sum(half: &[u8]) -> u64
+    requires { ⌜ length (now half) ≡ 128 ⌝ }
+{
+    let mut n: u64 = 0;
+    let mut i = 0;
+    while i < 128 {
+        n += wide(half[i]);
+        i += 1;
+    }
+    n
+}
+
+fn wide(b: u8) -> u64
+    ensures { λ r. ⌜ r ≤ 255 ⌝ }
+{
+    b as u64
+}
+
+fn text_if(yes: bool, s: &[u8]) {
+    if yes {
+        text(s);
+    }
+}
+
+fn print_kind(kind: Kind) {
+    match kind {
+        Kind::Value => text(b", says a value"),
+        Kind::Note => text(b", says a note"),
+        Kind::Nothing => text(b", says nothing"),
+    }
+}
+
+fn print_sums(page: &[u8])
+    requires { ⌜ length (now page) ≡ 256 ⌝ }
+{
+    text(b", sums ");
+    number(sum(&page[0..128]));
+    text(b" ");
+    number(sum(&page[128..256]));
+}
+
+fn print_page(chip: &[u8], p: usize)
+    requires { ⌜ 256 * p + 256 ≤ length (now chip) ⌝ }
+{
+    let a = 256 * p;
+    text(b" ");
+    trying::byte(chip[a]);
+    text(b" ");
+    trying::byte(chip[a + 128]);
+    print_sums(&chip[a..a + 256]);
+    text_if(chip::blank_at(chip, p), b", blank");
+    text_if(page::is_sound(&chip[a..a + 256]), b", sound");
+    print_kind(record::kind_at(chip, p));
+}
+
+fn print_end(fuse: u64, elsewhere: u64) {
+    text(b", left of the script ");
+    number(fuse);
+    text(b", changed elsewhere ");
+    number(elsewhere);
+    text(b"\n");
+}
+
+// Writes a value to page p if it is blank.
+fn put(chip: &mut [u8], p: usize, value: &[u8], fuse: &mut u64, noise: &[u8])
+    requires { ⌜ (256 * p + 256 ≤ length (now chip)) × (length (now value) ≤ 96) × (length (now noise) ≡ 4096) ⌝ }
+{
+    if chip::blank_at(chip, p) {
+        let page = record::encode(false, b"key", value);
+        chip::write(chip, p, &page, fuse, noise);
+    }
+}
+
+// A chip of two blocks with a value on page 1 and on page 17, and else blank.
+fn set_up(chip: &mut [u8], noise: &[u8])
+    requires { ⌜ (length (now chip) ≡ 8192) × (length (now noise) ≡ 4096) ⌝ }
+{
+    let mut fuse: u64 = 9;
+    chip::erase(chip, 0, &mut fuse, noise);
+    chip::erase(chip, 1, &mut fuse, noise);
+    put(chip, 1, b"old", &mut fuse, noise);
+    put(chip, 17, b"other", &mut fuse, noise);
+}
+
+// `before` is such a chip, to compare with.
+fn try_write(chip: &mut [u8], before: &[u8], noise: &[u8], script: u64, which: usize)
+    requires { ⌜ (length (now chip) ≡ 8192) × (length (now before) ≡ 8192) × (length (now noise) ≡ 4096) ⌝ }
+{
+    set_up(chip, noise);
+    let mut fuse = script;
+    put(chip, 2, b"new", &mut fuse, noise);
+    text(b"write, script ");
+    number(script);
+    print_noise(which);
+    print_page(chip, 2);
+    print_end(fuse, trying::changed(before, chip, 512, 768));
+}
+
+fn try_erase(chip: &mut [u8], before: &[u8], noise: &[u8], script: u64, which: usize)
+    requires { ⌜ (length (now chip) ≡ 8192) × (length (now before) ≡ 8192) × (length (now noise) ≡ 4096) ⌝ }
+{
+    set_up(chip, noise);
+    let mut fuse = script;
+    chip::erase(chip, 0, &mut fuse, noise);
+    text(b"erase, script ");
+    number(script);
+    print_noise(which);
+    print_page(chip, 1);
+    print_end(fuse, trying::changed(before, chip, 0, 4096));
+}
+
+// Both, under each script, with one noise.
+fn try_noise(chip: &mut [u8], before: &[u8], noise: &[u8], which: usize)
+    requires { ⌜ (length (now chip) ≡ 8192) × (length (now before) ≡ 8192) × (length (now noise) ≡ 4096) ⌝ }
+{
+    let mut script: u64 = 0;
+    while script < 3 {
+        try_write(chip, before, noise, script, which);
+        try_erase(chip, before, noise, script, which);
+        script += 1;
+    }
+}
+
+fn try_all(chip: &mut [u8], before: &mut [u8], noise: &mut [u8])
+    requires { ⌜ (length (now chip) ≡ 8192) × (length (now before) ≡ 8192) × (length (now noise) ≡ 4096) ⌝ }
+{
+    let forged = record::encode(false, b"key", b"forged");
+    set_up(before, noise);
+    let mut which = 0;
+    while which < 4 {
+        trying::make_noise(which, &forged, noise);
+        try_noise(chip, before, noise, which);
+        which += 1;
+    }
+}
+
+fn main() {
+    let mut chip = [0u8; 8192];
+    let mut before = [0u8; 8192];
+    let mut noise = [0u8; 4096];
+    try_all(&mut chip, &mut before, &mut noise);
+}

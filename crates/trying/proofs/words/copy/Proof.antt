@@ -1,0 +1,33 @@
+-- `trying::words::copy` is safe and ends. Assumes nothing.
+use native.Mathlib.Omega.{arith}
+use Rattle.io.proofs.Counting.{counts}
+use mathlib.Core.Path.{_≡_}
+use Prim.Native.Nat.{_≤_, _-_}
+use lib.ListN.{length}
+use borrow.Author.Needs.{needs}
+use Rattle.trying.proofs.words.copy.Statement.{statement}
+use Rattle.trying.proofs.words.copy.Tie as tie
+
+abbrev Inv-loop : tie.InvT-loop
+Inv-loop s out₀ i₀ n₀ out i n = (i ≤ length s) × (n ≤ length out₀) × (length out ≡ length out₀)
+
+abbrev μ-loop : tie.MeasureT-loop
+μ-loop s out₀ i₀ n₀ out i n = length s - i
+
+pub copy-spec : {M : Type 1} → statement M
+copy-spec =
+    tie.close
+    (tie.spec
+    Inv-loop
+    μ-loop
+    (λ c. search needs)
+    (λ c. search needs)
+    (λ c. counts _ _ (omega arith))
+    (λ c κs. search needs)
+    (λ c. search needs)
+    (λ c κs. search needs)
+    (λ c. search needs)
+    (λ c. search needs)
+    (λ c. search needs)
+    (λ c. search needs)
+    (λ c. counts _ _ (omega arith)))
