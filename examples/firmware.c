@@ -1,7 +1,7 @@
 /* A page of firmware to copy: settings and measurements of a float, and the power failing under a put.
  * The library stores to the chip's bytes itself, so `chip` is memory: here an array, and the fault script plays the failure. A mapped flash takes no such
  * stores, and a chip behind a driver is not supported yet. */
-#include <floatstore.h>
+#include <floatstore_fs.h>
 #include <inttypes.h>
 #include <stdio.h>
 #include <string.h>
@@ -10,30 +10,12 @@
 
 static uint8_t chip[FLOATSTORE_CHIP_LEN(BLOCKS)];
 static uint32_t work[FLOATSTORE_WORK_LEN(BLOCKS)];
-static uint8_t noise[FLOATSTORE_NOISE];
-static uint64_t fuse = FLOATSTORE_NO_FAULT;
-
-/* The calls of a life, with what is always lent written once. */
-static int64_t start(void) { return floatstore_start(chip, sizeof chip, work, FLOATSTORE_WORK_LEN(BLOCKS), &fuse); }
-static int64_t put(const char *key, const void *value, size_t len) {
-    return floatstore_put(chip, sizeof chip, work, FLOATSTORE_WORK_LEN(BLOCKS), &fuse, noise, (const uint8_t *)key, strlen(key), value, len);
-}
-static int64_t get(const char *key, void *buffer, size_t len) {
-    return floatstore_get(chip, sizeof chip, work, FLOATSTORE_WORK_LEN(BLOCKS), &fuse, (const uint8_t *)key, strlen(key), buffer, len);
-}
-static int64_t del(const char *key) {
-    return floatstore_delete(chip, sizeof chip, work, FLOATSTORE_WORK_LEN(BLOCKS), &fuse, noise, (const uint8_t *)key, strlen(key));
-}
-static int64_t count(void) { return floatstore_count(chip, sizeof chip, work, FLOATSTORE_WORK_LEN(BLOCKS), &fuse); }
-
-static int64_t next(const char *key, char *buffer, size_t len) {
-    return floatstore_next(chip, sizeof chip, work, FLOATSTORE_WORK_LEN(BLOCKS), &fuse, (const uint8_t *)key, strlen(key), (uint8_t *)buffer, len);
-}
+static struct floatstore_fs fs = FS_INIT(chip, work);
 
 /* After a reset: start, and nothing else. Only a chip that isn't this store's answers -8: format it in the workshop. */
 static int boot(void) {
-    int64_t answer = start();
-    if (answer < 0) printf("start is refused: %" PRId64 "\n", -answer);
+    int64_t answer = fs_start(&fs);
+    if (answer < 0) printf("start is refused (%" PRId64 "): %s\n", -answer, floatstore_text(answer));
     return answer >= 0;
 }
 
@@ -41,10 +23,11 @@ static int boot(void) {
 static int dive(int number) {
     char key[FLOATSTORE_MAX_KEY + 1];
     int32_t depth = 1000, salinity[24];
-    if (get("park.depth", &depth, sizeof depth) == -FLOATSTORE_NO_VALUE) printf("dive %d: no setting yet, parking at %" PRId32 " m\n", number, depth);
+    if (fs_get(&fs, FS_KEY("park.depth"), &depth, sizeof depth) == -FLOATSTORE_NO_VALUE)
+        printf("dive %d: no setting yet, parking at %" PRId32 " m\n", number, depth);
     for (int i = 0; i < 24; i++) salinity[i] = 35000 + 7 * i + number;
     snprintf(key, sizeof key, "sal.%d", number);
-    return put(key, salinity, sizeof salinity) >= 0;
+    return fs_put(&fs, FS_KEY(key), salinity, sizeof salinity) >= 0;
 }
 
 /* The surface: everything is sent, then forgotten. */
@@ -53,10 +36,10 @@ static int surface(int first, int last) {
         char key[FLOATSTORE_MAX_KEY + 1];
         uint8_t value[FLOATSTORE_MAX_VALUE];
         snprintf(key, sizeof key, "sal.%d", i);
-        int64_t len = get(key, value, sizeof value);
+        int64_t len = fs_get(&fs, FS_KEY(key), value, sizeof value);
         if (len < 0) return 0;
         printf("sent %s, %" PRId64 " bytes\n", key, len);
-        if (del(key) < 0) return 0;
+        if (fs_delete(&fs, FS_KEY(key)) < 0) return 0;
     }
     return 1;
 }
@@ -66,7 +49,7 @@ static void list(void) {
     char key[FLOATSTORE_MAX_KEY + 1], last[FLOATSTORE_MAX_KEY + 1] = "";
     int64_t len;
     printf("keys:");
-    while ((len = next(last, key, FLOATSTORE_MAX_KEY)) > 0) {
+    while ((len = fs_next(&fs, FS_KEY(last), key, FLOATSTORE_MAX_KEY)) > 0) {
         key[len] = 0;
         printf(" %s", key);
         strcpy(last, key);
@@ -77,21 +60,23 @@ static void list(void) {
 int main(void) {
     memset(chip, 0xFF, sizeof chip); /* as it comes from the maker: blank, and so a store with an empty map */
     int32_t depth = 1500, before = 0;
-    if (!boot() || !dive(1) || put("park.depth", &depth, sizeof depth) < 0 || !dive(2)) return 1;
+    if (!boot() || !dive(1) || fs_put(&fs, FS_KEY("park.depth"), &depth, sizeof depth) < 0 || !dive(2)) return 1;
 
     /* The pump starts, and the voltage drops in the middle of a page write: some bits are left as they were. */
+    static uint8_t noise[FLOATSTORE_NOISE];
     memset(noise, 0x24, sizeof noise);
-    fuse = 1;
+    fs.noise = noise;
+    fs.fuse = 1;
     depth = 2000;
-    printf("put under a power failure answers %" PRId64 "\n", put("park.depth", &depth, sizeof depth));
-    printf("and every call after it too: %" PRId64 "\n", count());
+    printf("put under a power failure answers %" PRId64 "\n", fs_put(&fs, FS_KEY("park.depth"), &depth, sizeof depth));
+    printf("and every call after it too: %" PRId64 "\n", fs_count(&fs));
 
     /* Power again: the processor boots, and the map is the one before that put or the one after it. */
-    fuse = FLOATSTORE_NO_FAULT;
-    if (!boot() || get("park.depth", &before, sizeof before) != sizeof before) return 1;
+    fs.fuse = FLOATSTORE_NO_FAULT;
+    if (!boot() || fs_get(&fs, FS_KEY("park.depth"), &before, sizeof before) != sizeof before) return 1;
     printf("after the start the depth is %" PRId32 ", one of 1500 and 2000\n", before);
     list();
-    if (put("park.depth", &depth, sizeof depth) < 0 || !surface(1, 2)) return 1;
-    printf("%" PRId64 " key has a value\n", count());
+    if (fs_put(&fs, FS_KEY("park.depth"), &depth, sizeof depth) < 0 || !surface(1, 2)) return 1;
+    printf("%" PRId64 " key has a value\n", fs_count(&fs));
     return before == 1500 || before == 2000 ? 0 : 1;
 }

@@ -2,22 +2,24 @@
  *
  * To its caller the store is a map: a key of 1 to 16 bytes (0x21 to 0x7E) has a value of 0 to 96 bytes, or none. Whatever a call but
  * format was doing when the power failed, after the next floatstore_start the map is the one before that call or the one after it.
+ * floatstore_fs.h has the same calls with less to write, floatstore_text.h the answers in words.
  * The library behind this header, libfloatstore.a, is proved: docs/STATEMENTS.md says sentence by sentence what.
  *
  * WHAT YOU LEND. The store has no memory of its own and calls nothing but memcpy and memset: no malloc, no clock, no interrupts.
  *   chip   the chip's bytes, chip_len = FLOATSTORE_CHIP_LEN(B) for B blocks, FLOATSTORE_MIN_BLOCKS <= B <= FLOATSTORE_MAX_BLOCKS.
  *          A blank chip (all bytes 0xFF) is a store with an empty map; nothing has to be written before its first start.
- *   work   memory for the store's index, work_len = FLOATSTORE_WORK_LEN(B) WORDS of 32 bits or more. Its content means nothing
- *          before a start, and is the store's from then on: lend the same words, unchanged, to each call until the next start. Use
- *          a chip through one area: a start on a second one makes the first stale, and a call on that may lose what was put.
+ *   work   memory for the store's index, work_len = FLOATSTORE_WORK_LEN(B) WORDS of 32 bits or more, not bytes. Its content means
+ *          nothing before a start, and is the store's from then on: lend the same words, unchanged, to each call until the next
+ *          start. Use a chip through one area: a start on a second one makes the first stale, and a call on that may lose what
+ *          was put.
  *   fuse   the fault script, one number; see below. On a float: let it point to UINT64_MAX and forget it.
  *   noise  4,096 bytes, looked at only when the script cuts an operation. On a float: any 4,096 bytes.
  * No two of these may overlap, nor may a key, a value or a buffer overlap them or each other: the buffer of get and next is not
- * the key that they are given. Each pointer must be valid for its length. C can't check that, and neither can the library. A
- * pointer with a length of 0 must still not be null. Nothing else is asked of a caller: any lengths, any bytes on the chip and
- * in the work area are answered. But an area is believed where its first word is 1 and its next three are in range, whoever wrote
- * them: if no start did, or the area was changed since, a call does at most B erases and 16 B page writes, and writes blank pages
- * only, but it may answer anything.
+ * the key that they are given. Each pointer must be valid for its length. C can't check that, and neither can the library. NULL is
+ * never valid here, with a length of 0 either: lend any byte (floatstore_fs.h takes NULL). Nothing else is asked of a caller: any
+ * lengths, any bytes on the chip and in the work area are answered. But an area is believed where its first word is 1 and its next
+ * three are in range, whoever wrote them: if no start did, or the area was changed since, a call does at most B erases and 16 B
+ * page writes, and writes blank pages only, but it may answer anything.
  *
  * WHAT A CALL ANSWERS. At least 0: it is done (get: the value's length; next: the key's; count: the number of keys; the others: 0).
  * Below 0: refused, minus a number of enum floatstore_refusal; of several that apply, the first of the order 5, 7, 8, 1, 2, 4, 6, 3.
@@ -50,6 +52,13 @@
 extern "C" {
 #endif
 
+/* The version of this header, as in the file VERSION: docs/DECISIONS.md, "Version 0.9.0", says what each number promises. */
+#define FLOATSTORE_VERSION_MAJOR 0
+#define FLOATSTORE_VERSION_MINOR 9
+#define FLOATSTORE_VERSION_PATCH 0
+#define FLOATSTORE_VERSION "0.9.0"
+#define FLOATSTORE_VERSION_NUMBER (10000 * FLOATSTORE_VERSION_MAJOR + 100 * FLOATSTORE_VERSION_MINOR + FLOATSTORE_VERSION_PATCH) /* 900: these grow */
+
 #define FLOATSTORE_PAGE 256u /* bytes of a page */
 #define FLOATSTORE_BLOCK 4096u /* bytes of a block: 16 pages */
 #define FLOATSTORE_NOISE 4096u /* bytes of noise */
@@ -77,24 +86,29 @@ enum floatstore_refusal {
     FLOATSTORE_NUMBERS_OUT = 9 /* numbers have run out: this design has none, so it is never answered */
 };
 
+/* The library's own version: FLOATSTORE_VERSION_NUMBER, if header and library are of one age. */
+int64_t floatstore_version(void);
+
 /* Erases every block; the map is empty. For the workshop: a start must follow, also where it was cut short. */
 int64_t floatstore_format(uint8_t *chip, size_t chip_len, uint32_t *work, size_t work_len, uint64_t *fuse, const uint8_t *noise);
 
 /* Reads the chip and makes the store ready; the map is the one that was there. It writes nothing to the chip, so it can't be cut. */
 int64_t floatstore_start(const uint8_t *chip, size_t chip_len, uint32_t *work, size_t work_len, const uint64_t *fuse);
 
-/* What a start saw of the chip's pages, for those who compare chips: a page is blank (all 0xFF), sound (its second half is the flipped copy of the first),
- * or spoilt, as a cut write or erase leaves it. */
+/* What a start saw of the chip's pages, for those who compare chips: a page is blank (all 0xFF), sound (its second half is the
+ * flipped copy of the first), or spoilt, as a cut write or erase leaves it. */
 struct floatstore_seen {
     uint64_t blank, sound, spoilt; /* how many pages of each kind: together 16 B */
     uint64_t page, byte; /* if spoilt > 0: the first spoilt page, and the lowest byte (0 to 127) at which it and its copy disagree */
 };
 
-/* The same start, which also looks at every page and fills *seen, where it is done and where it is refused with 8: a chip that is no store can be looked at.
- * Refused with 5 or 7 it leaves *seen as it was. */
-int64_t floatstore_start_seeing(const uint8_t *chip, size_t chip_len, uint32_t *work, size_t work_len, const uint64_t *fuse, struct floatstore_seen *seen);
+/* The same start, which also looks at every page and fills *seen, where it is done and where it is refused with 8: a chip that is
+ * no store can be looked at. Refused with 5 or 7 it leaves *seen as it was. */
+int64_t floatstore_start_seeing(const uint8_t *chip, size_t chip_len, uint32_t *work, size_t work_len, const uint64_t *fuse,
+                                struct floatstore_seen *seen);
 
-/* The key has this value from now on, whether or not it had one. Its bytes must be 0x21 to 0x7E; the other calls take any, so that old keys can be found and removed. */
+/* The key has this value from now on, whether or not it had one. Its bytes must be 0x21 to 0x7E; the other calls take any, so that
+ * old keys can be found and removed. */
 int64_t floatstore_put(uint8_t *chip, size_t chip_len, uint32_t *work, size_t work_len, uint64_t *fuse, const uint8_t *noise,
                        const uint8_t *key, size_t key_len, const uint8_t *value, size_t value_len);
 
@@ -109,10 +123,11 @@ int64_t floatstore_delete(uint8_t *chip, size_t chip_len, uint32_t *work, size_t
 /* How many keys have a value. */
 int64_t floatstore_count(const uint8_t *chip, size_t chip_len, const uint32_t *work, size_t work_len, const uint64_t *fuse);
 
-/* The next larger key that has a value, in the order of bytes, a shorter key before its longer continuations; key_len = 0 asks for the first. Its length; the key
- * stands at the start of the buffer, and the rest of the buffer is unchanged. To list the keys, give each call the key that the last one gave, until one answers
- * -FLOATSTORE_NO_VALUE: each key is given once. Between the calls anything may happen, puts, deletes, power failures and starts: no key is given twice, and a key
- * that has a value all the while is given. */
+/* The next larger key that has a value, in the order of bytes, a shorter key before its longer continuations; key_len = 0 asks for
+ * the first. Its length; the key stands at the start of the buffer, and the rest of the buffer is unchanged. To list the keys, give
+ * each call the key that the last one gave, until one answers -FLOATSTORE_NO_VALUE: each key is given once. Between the calls
+ * anything may happen, puts, deletes, power failures and starts: no key is given twice, and a key that has a value all the while
+ * is given. */
 int64_t floatstore_next(const uint8_t *chip, size_t chip_len, const uint32_t *work, size_t work_len, const uint64_t *fuse,
                         const uint8_t *key, size_t key_len, uint8_t *buffer, size_t buffer_len);
 

@@ -1,4 +1,5 @@
-/* The six calls from C, the next key, and the start that says what it saw: both sides of each limit of document 01, sections 3 and 5, on chips of up to 4,096 blocks, and one key put a million times. */
+/* The six calls from C, the next key, and the start that says what it saw: both sides of each limit of document 01, sections 3 and 5, on chips of up to 4,096
+ * blocks, and one key put a million times. */
 #include "../tools/letters.h"
 #include <floatstore.h>
 #include <stdio.h>
@@ -8,11 +9,15 @@
 /* The declarations are fixed, since others link against them: a header that says something else doesn't compile with these. */
 int64_t floatstore_format(uint8_t *chip, size_t chip_len, uint32_t *work, size_t work_len, uint64_t *fuse, const uint8_t *noise /* 4096 bytes */);
 int64_t floatstore_start (const uint8_t *chip, size_t chip_len, uint32_t *work, size_t work_len, const uint64_t *fuse);
-int64_t floatstore_put   (uint8_t *chip, size_t chip_len, uint32_t *work, size_t work_len, uint64_t *fuse, const uint8_t *noise, const uint8_t *key, size_t key_len, const uint8_t *value, size_t value_len);
-int64_t floatstore_get   (const uint8_t *chip, size_t chip_len, const uint32_t *work, size_t work_len, const uint64_t *fuse, const uint8_t *key, size_t key_len, uint8_t *buffer, size_t buffer_len); /* the length */
-int64_t floatstore_delete(uint8_t *chip, size_t chip_len, uint32_t *work, size_t work_len, uint64_t *fuse, const uint8_t *noise, const uint8_t *key, size_t key_len);
+int64_t floatstore_put   (uint8_t *chip, size_t chip_len, uint32_t *work, size_t work_len, uint64_t *fuse, const uint8_t *noise,
+                          const uint8_t *key, size_t key_len, const uint8_t *value, size_t value_len);
+int64_t floatstore_get   (const uint8_t *chip, size_t chip_len, const uint32_t *work, size_t work_len, const uint64_t *fuse,
+                          const uint8_t *key, size_t key_len, uint8_t *buffer, size_t buffer_len); /* the length */
+int64_t floatstore_delete(uint8_t *chip, size_t chip_len, uint32_t *work, size_t work_len, uint64_t *fuse, const uint8_t *noise,
+                          const uint8_t *key, size_t key_len);
 int64_t floatstore_count (const uint8_t *chip, size_t chip_len, const uint32_t *work, size_t work_len, const uint64_t *fuse); /* the count */
-int64_t floatstore_next(const uint8_t *chip, size_t chip_len, const uint32_t *work, size_t work_len, const uint64_t *fuse, const uint8_t *key, size_t key_len, uint8_t *buffer, size_t buffer_len);
+int64_t floatstore_next(const uint8_t *chip, size_t chip_len, const uint32_t *work, size_t work_len, const uint64_t *fuse,
+                          const uint8_t *key, size_t key_len, uint8_t *buffer, size_t buffer_len);
 
 static uint8_t *chip, noise[FLOATSTORE_NOISE];
 static uint32_t *work;
@@ -232,7 +237,8 @@ static void seeing(void) {
     IS(0, memcmp(&s, &before, sizeof s));
 }
 
-/* The key after this one is `want`, and past it the buffer is as it was; a buffer of just its length will do, and one byte less is refused and left as it was. */
+/* The key after this one is `want`, and past it the buffer is as it was; a buffer of just its length will do, and one byte less is refused and left as it
+ * was. */
 static void follows(const void *key, size_t key_len, const void *want, size_t want_len) {
     uint8_t b[17];
     memset(b, 0x5C, sizeof b);

@@ -1,8 +1,9 @@
 #!/usr/bin/env bash
-# The tool: every command and every error. What fails must end with a status that isn't 0 and one line on standard error, and leave the image as it was.
+# The tool: every old command and every error. What fails must end with its status (1 refused, 2 misused, 3 damaged) and one line on standard error, and leave
+# the image as it was. Salvage, what is asked at once, and what looks at pages: tests/tool_*.sh.
 cd "$(dirname "$0")/.." || exit 1
 top=$PWD
-tools/cc.sh target/c/floatstore tools/floatstore.c tools/reading.c -lm || exit 1
+tools/floatstore_build.sh || exit 1
 room=$(mktemp -d) || exit 1
 trap 'rm -rf "$room"' EXIT
 cd "$room" || exit 1
@@ -26,13 +27,17 @@ has() {
   got=$(tool "$@" 2>said) || complain "floatstore $*: failed: $(cat said)"
   case $got in *"$want"*) ;; *) complain "floatstore $*: wrote '$got', without '$want'" ;; esac
 }
-# fails PART WORDS..: it fails with one line that has that, and writes nothing else anywhere
-fails() {
-  local want=$1 before
-  shift
+# fails PART WORDS..: it fails with status 1 and one line that has that, and writes nothing else anywhere; misused, damaged: with status 2, 3
+fails() { ends 1 "$@"; }
+misused() { ends 2 "$@"; }
+damaged() { ends 3 "$@"; }
+ends() {
+  local status=$1 want=$2 before
+  shift 2
   tests=$((tests + 1))
   before=$(cat ./*.img 2>/dev/null | sha256sum; ls -A)
-  if tool "$@" >out 2>said; then complain "floatstore $*: succeeded"; fi
+  tool "$@" >out 2>said
+  [ $? = "$status" ] || complain "floatstore $*: the status isn't $status"
   [ "$(wc -l <said)" = 1 ] || complain "floatstore $*: not one line: $(cat said)"
   grep -qF -- "$want" said || complain "floatstore $*: said '$(cat said)', without '$want'"
   [ ! -s out ] || complain "floatstore $*: wrote to standard output"
@@ -92,8 +97,8 @@ says link get a.img by
 [ -L link ] || complain "a link was replaced"
 chmod 640 a.img && says '' delete a.img by
 [ "$(stat -c %a a.img)" = 640 ] || complain "the mode of a.img changed"
-says '' format a.img && says 0 count a.img
-says '' format a.img 4
+says '' format a.img --force && says 0 count a.img
+says '' format a.img && says '' format a.img 4
 says '' format big.img 4096 && says 0 count big.img && has 'room for 32752 keys' check big.img && rm big.img
 
 # ---- the ring goes round, and the power fails
@@ -119,11 +124,11 @@ for i in 0 1 2 3; do says "$(tool get before.img k$i)" get a.img k$i; done
 
 # ---- every error
 cp a.img keep && head -c 5000 a.img >odd.img && head -c 12288 /dev/zero >three.img && head -c 16384 /dev/zero >zero.img && mkdir folder
-fails 'no command'
-fails "no command 'frobnicate'" frobnicate
-for c in format put get delete count list check map; do fails 'words are missing' $c; done
-fails 'words are missing' put a.img key
-fails 'too many words' get a.img key more
+misused 'no command'
+misused "no command 'frobnicate'" frobnicate
+for c in format put get delete count list export import check map history dump diff salvage; do misused 'words are missing' $c; done
+misused 'words are missing' put a.img key
+misused 'too many words' get a.img key more
 fails 'No such file' get none.img key
 fails 'No such file' put none.img key value
 fails 'No such file' format none.img
@@ -134,9 +139,9 @@ fails "12288 bytes is no chip" check three.img
 fails 'refused (5)' format new.img 3
 fails 'refused (5)' format new.img 4097
 fails 'another size' format a.img 5
-fails "'four' is no number" format new.img four
-fails "'-4' is no number" format new.img -4
-fails 'cannot write beside it' format no/such/folder.img 4
+misused "'four' is no number" format new.img four
+misused "'-4' is no number" format new.img -4
+fails 'cannot be made' format no/such/folder.img 4
 fails 'refused (1)' put a.img '' value
 fails 'refused (1)' get a.img 0123456789abcdefg
 fails 'refused (1)' delete a.img hex:
@@ -146,14 +151,14 @@ fails 'refused (1)' put a.img $'line\n' value
 fails 'refused (2)' put a.img key "$(printf '%97s' v)"
 fails 'refused (4)' get a.img nothing
 fails 'refused (4): the key has no value' delete a.img nothing
-fails 'refused (8)' count zero.img
-fails 'refused (8)' put zero.img key value
-fails 'hex digits come in pairs' get a.img hex:0
-fails 'not hex digits' put a.img hex:zz value
-fails 'no option --svg' count a.img --svg x
-fails 'needs a word' map a.img --svg
-fails 'operations are counted from 1' put a.img a b --cut 0
-fails 'is no number of a seed' put a.img a b --noise loud
+damaged 'refused (8)' count zero.img
+damaged 'refused (8)' put zero.img key value
+misused 'hex digits come in pairs' get a.img hex:0
+misused 'not hex digits' put a.img hex:zz value
+misused 'no option --svg' count a.img --svg x
+misused 'needs a word' map a.img --svg
+misused 'operations are counted from 1' put a.img a b --cut 0
+misused 'is no number of a seed' put a.img a b --noise loud
 for i in $(seq 1 16); do tool put full.img "k$i" v 2>/dev/null || tool format full.img 4 && tool put full.img "k$i" v; done
 fails 'refused (3)' put full.img k17 v
 if tool check zero.img >out 2>said; then complain "check of zero.img succeeded"; fi

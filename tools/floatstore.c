@@ -1,223 +1,17 @@
 /* floatstore: chip images on shore. An image is a file of the chip's bytes, 4,096 for each of its 4 to 4,096 blocks. */
 #define _XOPEN_SOURCE 700
-#include "reading.h"
+#include "floatstore_tool.h"
 #include <errno.h>
-#include <floatstore.h>
 #include <inttypes.h>
-#include <math.h>
-#include <stdarg.h>
-#include <stdio.h>
 #include <stdlib.h>
 #include <string.h>
 #include <sys/stat.h>
-#include <unistd.h>
 
-static const char help_text[] =
-    "floatstore: look into the image of a float's chip, and change it\n"
-    "\n"
-    "  floatstore format IMAGE [B]         an empty store; with B (4 to 4096 blocks) the image may be a new file\n"
-    "  floatstore put IMAGE KEY VALUE      the key has this value from now on\n"
-    "  floatstore get IMAGE KEY            its value\n"
-    "  floatstore delete IMAGE KEY         the key has no value any more\n"
-    "  floatstore count IMAGE              how many keys have a value\n"
-    "  floatstore list IMAGE               every key and its value, in the order of the keys' bytes\n"
-    "  floatstore check IMAGE              pages by kind, head, spare, sealed blocks, what a cut left behind; reads the map twice, by two ways\n"
-    "  floatstore map IMAGE [--svg FILE]   a picture of the ring, a character for each page; or as SVG, to a file\n"
-    "  floatstore help                     this page\n"
-    "\n"
-    "A KEY (1 to 16 bytes; to put, printable ones) or a VALUE (0 to 96 bytes) is text, or hex digits after 'hex:', as hex:00ff. Bytes that aren't printable are shown so too.\n"
-    "get --raw writes the value's bytes as they are.\n"
-    "put and delete take --cut N: the power fails at their N-th erase or page write, and --noise SEED: ones, zeros, or a number.\n"
-    "A write that is cut leaves new | noise, an erase the noise itself.\n"
-    "\n"
-    "An image is replaced as a whole, or not at all: it is written beside, then renamed. Exit status 0; or 1, with one line on standard error.\n";
+#ifndef TOOL_VERSION
+#define TOOL_VERSION "unreleased"
+#endif
 
-/* One line on standard error, and the end. */
-static void die(const char *form, ...) {
-    va_list words;
-    va_start(words, form);
-    fputs("floatstore: ", stderr);
-    vfprintf(stderr, form, words);
-    fputc('\n', stderr);
-    va_end(words);
-    exit(1);
-}
-
-static const char *refusal_words(int64_t number) {
-    static const char *const words[] = {
-        "",
-        "a key has 1 to 16 bytes; put takes bytes 0x21 to 0x7E alone",
-        "a value has at most 96 bytes",
-        "no room: the store has as many keys as it can hold",
-        "the key has no value",
-        "a chip has 4 to 4096 blocks of 4096 bytes",
-        "the buffer is shorter than the value",
-        "the power has gone",
-        "these bytes are no store; format makes an empty one",
-        "numbers have run out",
-    };
-    return number >= 1 && number <= 9 ? words[number] : "unknown";
-}
-
-static int64_t done(const char *image, int64_t answer) {
-    if (answer < 0) die("%s: refused (%" PRId64 "): %s", image, -answer, refusal_words(-answer));
-    return answer;
-}
-
-/* ---- an image in memory */
-
-static struct {
-    const char *name;
-    uint8_t *chip, noise[FLOATSTORE_NOISE];
-    uint32_t *work;
-    size_t blocks, len, words;
-    uint64_t fuse;
-} image = {.fuse = FLOATSTORE_NO_FAULT};
-
-static void make_room(const char *name, size_t blocks) {
-    image.name = name;
-    image.blocks = blocks;
-    image.len = FLOATSTORE_CHIP_LEN(blocks);
-    image.words = FLOATSTORE_WORK_LEN(blocks);
-    image.chip = malloc(image.len);
-    image.work = calloc(image.words, sizeof *image.work);
-    if (!image.chip || !image.work) die("no memory for %zu blocks", blocks);
-}
-
-static void load(const char *name) {
-    struct stat about;
-    FILE *file = fopen(name, "rb");
-    if (!file) die("%s: %s", name, strerror(errno));
-    if (fstat(fileno(file), &about) != 0 || !S_ISREG(about.st_mode)) die("%s: not a file", name);
-    size_t len = (size_t)about.st_size;
-    if (len % FLOATSTORE_BLOCK || len / FLOATSTORE_BLOCK < FLOATSTORE_MIN_BLOCKS || len / FLOATSTORE_BLOCK > FLOATSTORE_MAX_BLOCKS)
-        die("%s: %zu bytes is no chip's size: 4 to 4096 blocks of 4096", name, len);
-    make_room(name, len / FLOATSTORE_BLOCK);
-    if (fread(image.chip, 1, len, file) != len) die("%s: %s", name, ferror(file) ? strerror(errno) : "shorter than it was");
-    fclose(file);
-}
-
-/* Writes beside, then renames: whoever looks at the name finds the old file or the new one. */
-static void save(const char *name, const void *bytes, size_t len) {
-    struct stat about;
-    char beside[4096];
-    char *real = realpath(name, NULL); /* what a link leads to is replaced, and not the link */
-    if (real) name = real;
-    if ((size_t)snprintf(beside, sizeof beside, "%s.XXXXXX", name) >= sizeof beside) die("%s: the name is too long", name);
-    int file = mkstemp(beside);
-    if (file < 0) die("%s: cannot write beside it: %s", name, strerror(errno));
-    mode_t mask = umask(0);
-    umask(mask);
-    int good = fchmod(file, stat(name, &about) == 0 ? about.st_mode & 0777 : 0666 & ~mask) == 0;
-    for (size_t at = 0; good && at < len;) {
-        ssize_t n = write(file, (const char *)bytes + at, len - at);
-        if (n < 0 && errno == EINTR) continue;
-        good = n > 0;
-        at += n > 0 ? (size_t)n : 0;
-    }
-    good = good && fsync(file) == 0;
-    int wrong = errno;
-    if (close(file) != 0 && good) good = 0, wrong = errno;
-    if (good && rename(beside, name) != 0) good = 0, wrong = errno;
-    if (!good) unlink(beside), die("%s: not written: %s", name, strerror(wrong));
-}
-
-static void start(void) { done(image.name, floatstore_start(image.chip, image.len, image.work, image.words, &image.fuse)); }
-static int64_t get(const uint8_t *key, size_t key_len, uint8_t *buffer, size_t len) {
-    return floatstore_get(image.chip, image.len, image.work, image.words, &image.fuse, key, key_len, buffer, len);
-}
-static int64_t next(const uint8_t *key, size_t key_len, uint8_t *buffer, size_t len) {
-    return floatstore_next(image.chip, image.len, image.work, image.words, &image.fuse, key, key_len, buffer, len);
-}
-static int64_t count(void) { return done(image.name, floatstore_count(image.chip, image.len, image.work, image.words, &image.fuse)); }
-
-/* ---- bytes as words */
-
-struct bytes {
-    size_t len;
-    uint8_t *at;
-};
-
-static int hex_digit(char c) {
-    if (c >= '0' && c <= '9') return c - '0';
-    if (c >= 'a' && c <= 'f') return c - 'a' + 10;
-    return c >= 'A' && c <= 'F' ? c - 'A' + 10 : -1;
-}
-
-static struct bytes bytes_of(const char *word) {
-    struct bytes b = {strlen(word), malloc(strlen(word) + 1)};
-    if (!b.at) die("no memory");
-    memcpy(b.at, word, b.len);
-    if (strncmp(word, "hex:", 4) != 0) return b;
-    if (b.len % 2) die("'%s': hex digits come in pairs", word);
-    b.len = (b.len - 4) / 2;
-    for (size_t i = 0; i < b.len; i++) {
-        int high = hex_digit(word[4 + 2 * i]), low = hex_digit(word[5 + 2 * i]);
-        if (high < 0 || low < 0) die("'%s': not hex digits", word);
-        b.at[i] = (uint8_t)(16 * high + low);
-    }
-    return b;
-}
-
-/* Text where it is printable and can't be taken for hex, so that what is shown can be given back. */
-static void show(const uint8_t *at, size_t len) {
-    int text = !(len >= 4 && memcmp(at, "hex:", 4) == 0);
-    for (size_t i = 0; i < len; i++) text = text && at[i] >= ' ' && at[i] <= '~';
-    if (!text) fputs("hex:", stdout);
-    for (size_t i = 0; i < len; i++)
-        if (text) putchar(at[i]);
-        else printf("%02x", at[i]);
-}
-
-/* ---- the words of the command line: options are taken out */
-
-static struct {
-    const char *svg, *noise;
-    uint64_t cut;
-    int raw;
-} option;
-
-static uint64_t number_of(const char *word, const char *what) {
-    char *end;
-    errno = 0;
-    unsigned long long n = strtoull(word, &end, 10);
-    if (*word < '0' || *word > '9' || *end || errno) die("'%s' is no number of %s", word, what);
-    return n;
-}
-
-/* Whether the command takes the option. */
-static int takes(const char *command, const char *name) {
-    if (strcmp(name, "--svg") == 0) return strcmp(command, "map") == 0;
-    if (strcmp(name, "--raw") == 0) return strcmp(command, "get") == 0;
-    if (strcmp(name, "--cut") == 0 || strcmp(name, "--noise") == 0) return strcmp(command, "put") == 0 || strcmp(command, "delete") == 0;
-    return 0;
-}
-
-/* After '--' nothing is an option, so that a key may begin so. */
-static int take_options(int argc, char **argv) {
-    int kept = 2, words = 0;
-    for (int i = 2; i < argc; i++) {
-        if (words || strncmp(argv[i], "--", 2) != 0) {
-            argv[kept++] = argv[i];
-            continue;
-        }
-        if (strcmp(argv[i], "--") == 0) {
-            words = 1;
-            continue;
-        }
-        if (!takes(argv[1], argv[i])) die("%s has no option %s; see: floatstore help", argv[1], argv[i]);
-        if (strcmp(argv[i], "--raw") == 0) {
-            option.raw = 1;
-            continue;
-        }
-        if (i + 1 == argc) die("%s needs a word after it", argv[i]);
-        if (strcmp(argv[i], "--svg") == 0) option.svg = argv[i + 1];
-        if (strcmp(argv[i], "--noise") == 0) option.noise = argv[i + 1];
-        if (strcmp(argv[i], "--cut") == 0 && (option.cut = number_of(argv[i + 1], "operations")) == 0) die("operations are counted from 1");
-        i++;
-    }
-    return kept;
-}
+/* ---- what changes an image */
 
 static void set_fault(void) {
     if (option.cut) image.fuse = option.cut;
@@ -231,246 +25,270 @@ static void set_fault(void) {
     }
 }
 
-/* ---- the commands */
-
 /* What a put or delete left is saved, also where it was cut short; the refusal is told after that. */
 static void finish_change(int64_t answer) {
-    if (answer == 0 || (answer == -FLOATSTORE_POWER_GONE && option.cut)) save(image.name, image.chip, image.len);
-    if (answer == -FLOATSTORE_POWER_GONE && option.cut) die("%s: cut short (7): the power failed at operation %" PRIu64 ", as asked", image.name, option.cut);
-    done(image.name, answer);
+    if (answer == 0 || (answer == -FLOATSTORE_POWER_GONE && option.cut)) save();
+    if (answer == -FLOATSTORE_POWER_GONE && option.cut)
+        die(REFUSED, "%s: cut short (7): the power failed at operation %" PRIu64 ", as asked", image.name, option.cut);
+    done(answer);
     if (option.cut) fprintf(stderr, "floatstore: the call was done before operation %" PRIu64 "\n", option.cut);
+}
+
+/* Whatever isn't blank may be somebody's only copy. */
+static void must_be_blank(void) {
+    if (option.force) return;
+    int64_t answer = floatstore_start(image.chip, image.len, image.work, image.words, &image.fuse);
+    if (answer == 0 && count() > 0) die(REFUSED, "%s: it has %" PRId64 " keys, which format would remove; --force does", image.name, count());
+    for (size_t i = 0; i < image.len; i++)
+        if (image.chip[i] != 0xFF) die(REFUSED, "%s: it isn't blank, and format would erase what salvage may still read; --force does", image.name);
 }
 
 static void do_format(int argc, char **argv) {
     struct stat about;
-    if (argc == 4) {
-        uint64_t blocks = number_of(argv[3], "blocks");
-        if (blocks < FLOATSTORE_MIN_BLOCKS || blocks > FLOATSTORE_MAX_BLOCKS) die("refused (5): %s", refusal_words(5));
-        if (stat(argv[2], &about) == 0 && !S_ISREG(about.st_mode)) die("%s: not a file", argv[2]);
-        if (stat(argv[2], &about) == 0 && about.st_size != (off_t)FLOATSTORE_CHIP_LEN(blocks)) die("%s: it is there, and has another size", argv[2]);
-        make_room(argv[2], blocks);
-        memset(image.chip, 0, image.len);
-    } else {
-        load(argv[2]);
+    uint64_t blocks = argc == 4 ? number_of(argv[3], "blocks") : 0;
+    if (argc == 4 && (blocks < FLOATSTORE_MIN_BLOCKS || blocks > FLOATSTORE_MAX_BLOCKS))
+        die(REFUSED, "refused (5): a chip has 4 to 4096 blocks of 4096 bytes");
+    if (argc == 4 && stat(argv[2], &about) != 0 && errno == ENOENT && !option.offset) {
+        make_image(argv[2], blocks);
+        done(floatstore_format(image.chip, image.len, image.work, image.words, &image.fuse, image.noise));
+        save_new();
+        return;
     }
-    done(image.name, floatstore_format(image.chip, image.len, image.work, image.words, &image.fuse, image.noise));
-    save(image.name, image.chip, image.len);
+    if (option.offset && blocks) option.blocks = blocks;
+    load(argv[2], TO_CHANGE);
+    if (blocks && image.blocks != blocks) die(REFUSED, "%s: it is there, and has another size", argv[2]);
+    must_be_blank();
+    done(floatstore_format(image.chip, image.len, image.work, image.words, &image.fuse, image.noise));
+    save();
 }
 
-static void do_put(char **argv) {
-    struct bytes key = bytes_of(argv[3]), value = bytes_of(argv[4]);
-    load(argv[2]);
+static void do_put(int argc, char **argv) {
+    struct bytes key = bytes_of(argv[3]), value = value_of(argv[4]);
+    (void)argc;
+    load(argv[2], TO_CHANGE);
     start();
     set_fault();
-    finish_change(floatstore_put(image.chip, image.len, image.work, image.words, &image.fuse, image.noise, key.at, key.len, value.at, value.len));
+    finish_change(put(key.at, key.len, value.at, value.len));
 }
 
-static void do_delete(char **argv) {
+static void do_delete(int argc, char **argv) {
     struct bytes key = bytes_of(argv[3]);
-    load(argv[2]);
+    (void)argc;
+    load(argv[2], TO_CHANGE);
     start();
     set_fault();
     finish_change(floatstore_delete(image.chip, image.len, image.work, image.words, &image.fuse, image.noise, key.at, key.len));
 }
 
-static void do_get(char **argv) {
+static void import_entry(const uint8_t *key, size_t key_len, const uint8_t *value, size_t len) {
+    int64_t answer = put(key, key_len, value, len);
+    if (answer >= 0) return;
+    die(REFUSED, "%s: nothing was imported: refused (%" PRId64 "): %s: '%.*s'", image.name, -answer, refusal_words(-answer),
+        key_len < 64 ? (int)key_len : 64, (const char *)key);
+}
+
+/* All of the puts, or none: the image is saved after the last. */
+static void do_import(int argc, char **argv) {
+    struct bytes text = all_of(argc == 4 ? argv[3] : "-");
+    load(argv[2], TO_CHANGE);
+    start();
+    read_entries(text, import_entry);
+    save();
+}
+
+/* ---- what reads the map */
+
+static void do_get(int argc, char **argv) {
     uint8_t value[FLOATSTORE_MAX_VALUE];
     struct bytes key = bytes_of(argv[3]);
-    load(argv[2]);
+    (void)argc;
+    load(argv[2], TO_READ);
     start();
-    size_t len = (size_t)done(image.name, get(key.at, key.len, value, sizeof value));
+    size_t len = (size_t)done(get(key.at, key.len, value, sizeof value));
     if (option.raw) fwrite(value, 1, len, stdout);
     else show(value, len), putchar('\n');
 }
 
-static void do_count(char **argv) {
-    load(argv[2]);
+static void do_count(int argc, char **argv) {
+    (void)argc;
+    load(argv[2], TO_READ);
     start();
     printf("%" PRId64 "\n", count());
 }
 
-static void read_image(struct reading *r) {
-    if (!read_chip(r, image.chip, image.blocks)) die("no memory");
-}
-
-static void do_list(char **argv) {
+/* Every key that has a value, in the order of the keys. */
+static void walk(entry *each) {
     uint8_t key[FLOATSTORE_MAX_KEY], last[FLOATSTORE_MAX_KEY] = {0}, value[FLOATSTORE_MAX_VALUE];
     int64_t len = 0;
-    load(argv[2]);
-    start();
     while ((len = next(last, (size_t)len, key, sizeof key)) >= 0) {
-        int64_t value_len = done(image.name, get(key, (size_t)len, value, sizeof value));
-        show(key, (size_t)len);
-        putchar('\t');
-        show(value, (size_t)value_len);
-        putchar('\n');
+        each(key, (size_t)len, value, (size_t)done(get(key, (size_t)len, value, sizeof value)));
         memcpy(last, key, (size_t)len);
     }
-    if (len != -FLOATSTORE_NO_VALUE) done(image.name, len);
+    if (len != -FLOATSTORE_NO_VALUE) done(len);
 }
 
-/* ---- check */
-
-static void print_places(const struct reading *r, char kind, const char *what) {
-    size_t shown = 0;
-    for (size_t p = 0; p < 16 * r->blocks; p++) {
-        if (r->kinds[p] != kind) continue;
-        if (shown++ < 20) printf("  page %zu: block %zu, place %zu, the %s%s\n", p, p / 16, p % 16, block_role(r, image.chip, p / 16), what);
-    }
-    if (shown > 20) printf("  and %zu more\n", shown - 20);
+static void list_entry(const uint8_t *key, size_t key_len, const uint8_t *value, size_t len) {
+    show(key, key_len);
+    putchar('\t');
+    show(value, len);
+    putchar('\n');
 }
 
-/* Pages that neither are blank nor say anything: in the spare an erase or a copy was cut, elsewhere the write of a record or of a seal. */
-static void print_cuts(const struct reading *r) {
-    if (r->of[SPOILT] == 0) {
-        printf("cuts     no page was left half written or half erased\n");
-        return;
-    }
-    int one = r->of[SPOILT] == 1;
-    printf("cuts     %zu page%s left half written or half erased: %s nothing, until %s block is erased\n", r->of[SPOILT], one ? " was" : "s were", one ? "it says" : "they say",
-           one ? "its" : "their");
-    print_places(r, SPOILT, "");
-    for (size_t b = 0; b < r->blocks; b++)
-        if (r->kinds[16 * b + 15] == SPOILT && strcmp(block_role(r, image.chip, b), "spare") != 0) printf("  the seal of block %zu was cut short, and counts as a seal\n", b);
+static void do_list(int argc, char **argv) {
+    (void)argc;
+    load(argv[2], TO_READ);
+    start();
+    walk(list_entry);
 }
 
-/* The library's map against the one read by the format alone. */
-static void compare_readers(const struct reading *r) {
-    if (count() != (int64_t)r->keys) die("%s: the library counts %" PRId64 " keys, the format %zu", image.name, count(), r->keys);
-    for (size_t p = 0; p < 16 * r->blocks; p++) {
-        const uint8_t *page = image.chip + 256 * p;
-        uint8_t value[FLOATSTORE_MAX_VALUE];
-        if (r->kinds[p] != LIVE) continue;
-        int64_t len = get(page + 16, page[2], value, sizeof value);
-        if (len != page[3] || memcmp(value, page + 32, page[3]) != 0) die("%s: library and format differ on the key of page %zu", image.name, p);
-    }
-    printf("readers  the library and docs/FORMAT.md agree on all %zu keys\n", r->keys);
+static void do_export(int argc, char **argv) {
+    (void)argc;
+    load(argv[2], TO_READ);
+    start();
+    begin_entries();
+    walk(write_entry);
+    end_entries();
 }
 
-/* What the library's start saw of the pages, also of a chip that it refuses. Answers what start answered. */
-static int64_t print_seen(void) {
-    struct floatstore_seen seen;
-    int64_t answer = floatstore_start_seeing(image.chip, image.len, image.work, image.words, &image.fuse, &seen);
-    if (answer != -FLOATSTORE_NOT_STARTED) done(image.name, answer);
-    printf("start    saw %" PRIu64 " blank, %" PRIu64 " sound and %" PRIu64 " spoilt pages", seen.blank, seen.sound, seen.spoilt);
-    if (seen.spoilt > 0) printf("; the first spoilt one is page %" PRIu64 ", at byte %" PRIu64, seen.page, seen.byte);
-    printf("\n");
-    return answer;
-}
+/* ---- the commands and their words */
 
-static void do_check(char **argv) {
-    struct reading r;
-    size_t sealed = 0;
-    load(argv[2]);
-    read_image(&r);
-    for (size_t b = 0; b < r.blocks; b++) sealed += !page_is_blank(image.chip + 4096 * b + 256 * 15);
-    printf("chip     %zu blocks, %zu pages, room for %zu keys\n", r.blocks, 16 * r.blocks, FLOATSTORE_ROOM(r.blocks));
-    printf("pages    %zu blank, %zu live values, %zu older values, %zu notes, %zu seals, %zu spoilt, %zu other\n", r.of[BLANK], r.of[LIVE], r.of[OLD], r.of[NOTE], r.of[SEAL],
-           r.of[SPOILT], r.of[OTHER]);
-    if (!r.is_ring) done(image.name, print_seen()); /* and that is refused, in words */
-    printf("ring     head: block %zu, its next place %zu; ", r.head, r.next);
-    if (r.later) printf("spare: block %zu; oldest: block %zu; %zu blocks sealed\n", r.spare, r.oldest, sealed);
-    else printf("first round, nothing erased yet; %zu blocks sealed, %zu unused\n", sealed, r.blocks - 1 - r.head);
-    print_cuts(&r);
-    done(image.name, print_seen());
-    printf("map      %" PRId64 " of %zu keys\n", count(), FLOATSTORE_ROOM(r.blocks));
-    compare_readers(&r);
-}
-
-/* ---- map */
-
-static const struct {
-    char kind;
-    const char *colour, *words;
-} legend[] = {
-    {LIVE, "#1b7f5c", "a value that its key has"}, {OLD, "#a9d5c3", "an older value"},     {NOTE, "#e0a030", "a note of a deletion"}, {SEAL, "#3b4a6b", "a seal"},
-    {BLANK, "#f2f2ee", "blank"},                   {SPOILT, "#c8364a", "cut short"},        {OTHER, "#9a6fb0", "sound, but no record"},
+struct command {
+    const char *name, *words;
+    int least, most;
+    void (*run)(int argc, char **argv);
+    const char *options, *help, *more;
 };
-enum { LEGEND = sizeof legend / sizeof legend[0] };
 
-static void print_map(const struct reading *r) {
-    size_t across = r->blocks <= 64 ? 1 : 8;
-    for (size_t b = 0; b < r->blocks; b++) {
-        if (b % across == 0) printf("%4zu  ", b);
-        for (size_t j = 0; j < 16; j++) putchar(r->kinds[16 * b + j]);
-        const char *role = block_role(r, image.chip, b);
-        if (across == 1) printf("%s%s\n", *role ? "  " : "", role);
-        else fputs(b % across == across - 1 || b + 1 == r->blocks ? "\n" : " ", stdout);
+#define HEX "A KEY (1 to 16 bytes; to put, printable ones) is text, or hex digits after 'hex:', as hex:00ff. What isn't printable is shown so too.\n"
+#define VALUE \
+    "A VALUE (0 to 96 bytes) is text or hex: as a key is, or - for standard input, or @FILE for a file's bytes; @@x is the text @x, hex:2d is -.\n"
+#define CUT \
+    "--cut N: the power fails at the N-th erase or page write. --noise SEED: ones, zeros, or a number. A cut write leaves new | noise, an erase the noise.\n"
+#define ENTRIES "Keys and values stand there as the tool shows them: text, or hex digits after 'hex:'.\n"
+
+static const struct command commands[] = {
+    {"format", "IMAGE [B]", 1, 2, do_format, "--force", "an empty store; with B (4 to 4096 blocks) the image may be a new file",
+     "An image that isn't blank is formatted with --force only.\n"},
+    {"put", "IMAGE KEY VALUE", 3, 3, do_put, "--cut --noise", "the key has this value from now on", HEX VALUE CUT},
+    {"get", "IMAGE KEY", 2, 2, do_get, "--raw", "its value", HEX "--raw writes the value's bytes as they are.\n"},
+    {"delete", "IMAGE KEY", 2, 2, do_delete, "--cut --noise", "the key has no value any more", HEX CUT},
+    {"count", "IMAGE", 1, 1, do_count, "", "how many keys have a value", ""},
+    {"list", "IMAGE", 1, 1, do_list, "", "every key and its value, in the order of the keys' bytes", ""},
+    {"export", "IMAGE", 1, 1, do_export, "--json --csv", "every key and its value as JSON, or as CSV", ENTRIES},
+    {"import", "IMAGE [FILE]", 1, 2, do_import, "--json --csv", "puts what export wrote, from a file or standard input; all of it or nothing",
+     ENTRIES "Keys that the file doesn't name stay. Without --json or --csv, a text that begins with [ is JSON.\n"},
+    {"check", "IMAGE", 1, 1, do_check, "", "pages by kind, head, spare, sealed blocks, what a cut left behind; reads the map twice, by two ways", ""},
+    {"map", "IMAGE", 1, 1, do_map, "--svg", "a picture of the ring, a character for each page; or as SVG, to a file: --svg FILE",
+     "--svg -: to standard output. Above 64 blocks the picture has a cell for each block. Only a picture is replaced by a picture.\n"},
+    {"history", "IMAGE KEY", 2, 2, do_history, "", "all records of a key, oldest first", HEX "The spare's come first: start never believes them.\n"},
+    {"dump", "IMAGE PAGE", 2, 2, do_dump, "", "a page's bytes, and what it says; PAGE is a number or BLOCK:PLACE", ""},
+    {"diff", "A B", 2, 2, do_diff, "", "the keys and the pages in which two images differ; status 4 if any", "--offset and --blocks hold of both.\n"},
+    {"salvage", "IMAGE", 1, 1, do_salvage, "--json --csv", "every sound record, also where start refuses; what is newest, how sure that is, what was lost",
+     "--json or --csv: the map alone, by the best guess, for import into another image; without what pages spoilt in one bit may have said.\n"},
+};
+enum { COMMANDS = sizeof commands / sizeof commands[0] };
+
+static void print_line(const struct command *c) {
+    char words[64];
+    snprintf(words, sizeof words, "%s %s", c->name, c->words);
+    printf("  floatstore %-24s %s\n", words, c->help);
+}
+
+static void print_help(void) {
+    printf("floatstore: look into the image of a float's chip, and change it\n\n");
+    for (size_t i = 0; i < COMMANDS; i++) print_line(&commands[i]);
+    printf("  floatstore COMMAND -h               more about a command; help: this page; --version\n\n" HEX VALUE);
+    printf("Each command takes --offset N, where the store begins at byte N of a larger file, and --blocks B, where more follows it.\n\n"
+           "A change is made under a lock, in place, with a copy beside (IMAGE.rescue) until it is on the disk: the whole of it is there, or nothing.\n"
+           "Exit status: 0 done; 1 refused; 2 misused; 3 damaged: start refuses the chip, or two readings of it differ; 4 diff found differences.\n");
+}
+
+/* What follows an option, if anything. */
+static const char *word_after(const char *name) {
+    if (strncmp(name, "--svg", 5) == 0) return " FILE";
+    if (strncmp(name, "--cut", 5) == 0) return " N";
+    return strncmp(name, "--noise", 7) == 0 ? " SEED" : "";
+}
+
+static void print_more(const struct command *c) {
+    printf("floatstore %s %s", c->name, c->words);
+    for (const char *o = c->options; *o; o += strcspn(o, " "), o += *o == ' ') printf(" [%.*s%s]", (int)strcspn(o, " "), o, word_after(o));
+    printf(" [--offset N] [--blocks B]\n\n%s\n%s", c->help, c->more);
+}
+
+/* ---- options: they are taken out of the words */
+
+/* Whether the command takes the option. */
+static int takes(const struct command *c, const char *name) {
+    size_t len = strlen(name);
+    for (const char *o = c->options; *o; o += strcspn(o, " "), o += *o == ' ')
+        if (strcspn(o, " ") == len && strncmp(o, name, len) == 0) return 1;
+    return strcmp(name, "--offset") == 0 || strcmp(name, "--blocks") == 0;
+}
+
+/* An option that is a word alone. */
+static int *flag_of(const char *name) {
+    if (strcmp(name, "--raw") == 0) return &option.raw;
+    if (strcmp(name, "--force") == 0) return &option.force;
+    if (strcmp(name, "--json") == 0) return &option.json;
+    return strcmp(name, "--csv") == 0 ? &option.csv : NULL;
+}
+
+static void set_option(const char *name, const char *word) {
+    if (strcmp(name, "--svg") == 0) option.svg = word;
+    if (strcmp(name, "--noise") == 0) option.noise = word;
+    if (strcmp(name, "--offset") == 0) option.offset = number_of(word, "bytes");
+    if (strcmp(name, "--blocks") == 0 && (option.blocks = number_of(word, "blocks")) == 0) die(MISUSED, "a chip has 4 to 4096 blocks");
+    if (strcmp(name, "--cut") == 0 && (option.cut = number_of(word, "operations")) == 0) die(MISUSED, "operations are counted from 1");
+}
+
+/* After '--' nothing is an option, so that a key may begin so. */
+static int take_options(const struct command *c, int argc, char **argv) {
+    int kept = 2, words = 0;
+    for (int i = 2; i < argc; i++) {
+        if (words || strncmp(argv[i], "--", 2) != 0) {
+            argv[kept++] = argv[i];
+            continue;
+        }
+        if (strcmp(argv[i], "--") == 0) {
+            words = 1;
+            continue;
+        }
+        if (!takes(c, argv[i])) die(MISUSED, "%s has no option %s; see: floatstore help", argv[1], argv[i]);
+        if (flag_of(argv[i])) {
+            *flag_of(argv[i]) = 1;
+            continue;
+        }
+        if (i + 1 == argc) die(MISUSED, "%s needs a word after it", argv[i]);
+        set_option(argv[i], argv[i + 1]);
+        i++;
     }
-    if (across > 1 && r->is_ring) printf("head %zu, spare %zu, oldest %zu\n", r->head, r->spare, r->oldest);
-    for (size_t i = 0; i < LEGEND; i++) printf("%s%c %s", i ? ", " : "", legend[i].kind, legend[i].words);
-    printf("\n");
+    if (option.json && option.csv) die(MISUSED, "--json or --csv, not both");
+    return kept;
 }
 
-static const char *colour_of(char kind) {
-    for (size_t i = 0; i < LEGEND; i++)
-        if (legend[i].kind == kind) return legend[i].colour;
-    return "#000000";
+static const struct command *find(const char *name) {
+    for (size_t i = 0; i < COMMANDS; i++)
+        if (strcmp(commands[i].name, name) == 0) return &commands[i];
+    die(MISUSED, "there is no command '%s'; see: floatstore help", name);
 }
 
-/* A cell of the ring: block b at its angle, page 0 inside and page 15, the seal, outside. */
-static void draw_cell(FILE *out, const struct reading *r, size_t b, size_t j) {
-    const double turn = 6.283185307179586, gap = 0.06;
-    double from = turn * ((double)b + gap) / (double)r->blocks, to = turn * ((double)b + 1 - gap) / (double)r->blocks;
-    double inner = 120 + 14.0 * (double)j, outer = inner + 13;
-    fprintf(out, "<path fill=\"%s\" d=\"M%.1f %.1fA%.1f %.1f 0 0 1 %.1f %.1fL%.1f %.1fA%.1f %.1f 0 0 0 %.1f %.1fZ\"/>\n", colour_of(r->kinds[16 * b + j]), inner * sin(from),
-            -inner * cos(from), inner, inner, inner * sin(to), -inner * cos(to), outer * sin(to), -outer * cos(to), outer, outer, outer * sin(from), -outer * cos(from));
+static int end(void) {
+    if (fflush(stdout) != 0 || ferror(stdout)) die(REFUSED, "standard output: %s", strerror(errno));
+    return DONE;
 }
 
-static void draw_label(FILE *out, const struct reading *r, size_t b) {
-    const char *role = block_role(r, image.chip, b);
-    double angle = 6.283185307179586 * ((double)b + 0.5) / (double)r->blocks;
-    if (strcmp(role, "head") && strcmp(role, "spare") && strcmp(role, "oldest")) return;
-    fprintf(out, "<text x=\"%.1f\" y=\"%.1f\" text-anchor=\"%s\" font-weight=\"bold\">%s</text>\n", 358 * sin(angle), -358 * cos(angle) + 5, sin(angle) < 0 ? "end" : "start", role);
-}
-
-static void draw_map(const struct reading *r, FILE *out) {
-    fprintf(out, "<svg xmlns=\"http://www.w3.org/2000/svg\" viewBox=\"-430 -400 860 800\" font-family=\"sans-serif\" font-size=\"15\">\n<rect x=\"-430\" y=\"-400\" width=\"860\" height=\"800\" fill=\"#ffffff\"/>\n");
-    for (size_t b = 0; b < r->blocks; b++)
-        for (size_t j = 0; j < 16; j++) draw_cell(out, r, b, j);
-    for (size_t b = 0; b < r->blocks && r->is_ring; b++) draw_label(out, r, b);
-    for (size_t i = 0; i < LEGEND; i++)
-        fprintf(out, "<rect x=\"-92\" y=\"%zd\" width=\"11\" height=\"11\" fill=\"%s\" stroke=\"#888888\" stroke-width=\"0.5\"/><text x=\"-76\" y=\"%zd\" font-size=\"12\">%s</text>\n", (ssize_t)(18 * i) - 70,
-                legend[i].colour, (ssize_t)(18 * i) - 60, legend[i].words);
-    fprintf(out, "<text y=\"78\" text-anchor=\"middle\" font-size=\"12\">%zu blocks, %zu of %zu keys</text>\n</svg>\n", r->blocks, r->keys, FLOATSTORE_ROOM(r->blocks));
-}
-
-static void do_map(char **argv) {
-    struct reading r;
-    char *text = NULL;
-    size_t len = 0;
-    load(argv[2]);
-    read_image(&r);
-    if (!option.svg) {
-        print_map(&r);
-        return;
-    }
-    FILE *out = open_memstream(&text, &len);
-    if (!out) die("no memory");
-    draw_map(&r, out);
-    if (fclose(out) != 0) die("no memory");
-    save(option.svg, text, len);
-}
-
-/* So many words after the command, or one line. */
-static void words(int argc, char **argv, int least, int most) {
-    if (argc < 2 + least || argc > 2 + most) die("%s: %s; see: floatstore help", argv[1], argc < 2 + least ? "words are missing" : "too many words");
-}
+static int is_help(const char *word) { return strcmp(word, "-h") == 0 || strcmp(word, "--help") == 0; }
 
 int main(int argc, char **argv) {
-    if (argc < 2) die("no command; see: floatstore help");
-    const char *command = argv[1];
-    if (strcmp(command, "help") == 0 || strcmp(command, "--help") == 0) return fputs(help_text, stdout) < 0;
-    argc = take_options(argc, argv);
-    if (strcmp(command, "format") == 0) words(argc, argv, 1, 2), do_format(argc, argv);
-    else if (strcmp(command, "put") == 0) words(argc, argv, 3, 3), do_put(argv);
-    else if (strcmp(command, "get") == 0) words(argc, argv, 2, 2), do_get(argv);
-    else if (strcmp(command, "delete") == 0) words(argc, argv, 2, 2), do_delete(argv);
-    else if (strcmp(command, "count") == 0) words(argc, argv, 1, 1), do_count(argv);
-    else if (strcmp(command, "list") == 0) words(argc, argv, 1, 1), do_list(argv);
-    else if (strcmp(command, "check") == 0) words(argc, argv, 1, 1), do_check(argv);
-    else if (strcmp(command, "map") == 0) words(argc, argv, 1, 1), do_map(argv);
-    else die("there is no command '%s'; see: floatstore help", command);
-    if (fflush(stdout) != 0 || ferror(stdout)) die("standard output: %s", strerror(errno));
-    return 0;
+    if (argc < 2) die(MISUSED, "no command; see: floatstore help");
+    if (strcmp(argv[1], "help") == 0 || is_help(argv[1])) return print_help(), end();
+    if (strcmp(argv[1], "--version") == 0) return printf("floatstore %s\n", TOOL_VERSION), end();
+    const struct command *c = find(argv[1]);
+    if (argc >= 3 && is_help(argv[2])) return print_more(c), end();
+    argc = take_options(c, argc, argv);
+    if (argc < 2 + c->least || argc > 2 + c->most)
+        die(MISUSED, "%s: %s; see: floatstore %s -h", argv[1], argc < 2 + c->least ? "words are missing" : "too many words", argv[1]);
+    c->run(argc, argv);
+    return end();
 }

@@ -42,6 +42,12 @@ def bare(text):
     return re.sub(r"\b(?:requires|ensures)\b[^{]*\{[^}]*\}", " ", text)
 
 
+def shared():
+    """What only the programs stand on: the crates below that line of crates.txt."""
+    lines = (ROOT / "crates.txt").read_text(encoding="utf8").partition("# what the programs share\n")[2].splitlines()
+    return {line.split(":")[0] for line in lines if ":" in line}
+
+
 class Crate:
     def __init__(self, name, known):
         self.name = name
@@ -49,7 +55,8 @@ class Crate:
         code = bare(written)
         if not written:
             sys.exit(f"crates.txt names {name}, and crates/{name}/src is empty")
-        self.program = (ROOT / "crates" / name / "src" / "main.rt").exists()
+        # a program, or what only programs share: nothing of the store stands on it
+        self.program = (ROOT / "crates" / name / "src" / "main.rt").exists() or name in shared()
         self.theory = "is theory" in "".join(re.findall(r"^//[^\n]*\n", written, re.M))
         cited = re.findall(r"\buse\s+Rattle·(\w+)", "\n".join(sources(name, "src", "specs", "proofs")))
         named = re.findall(r"(?<![\w:])(\w+)\s*::", code) + re.findall(r"\buse\s+(\w+)", code)

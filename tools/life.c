@@ -1,5 +1,6 @@
 /* A float's life: five years, a dive every ten days, settings and measurements, some forty power failures; beside the store a plain copy of its map.
- *   life [--blocks B] [--seed N] [--cuts] [--image FILE]      B from 4 to 256 (16); --cuts lists each power failure, --image keeps the chip at the end */
+ *   life BLOCKS SEED LIST [IMAGE]      BLOCKS from 4 to 256; LIST 1: each power failure is listed; the chip at the end is kept as IMAGE
+ * ./life takes the words of a person, and refuses what can't be a life before anything is built. */
 #define _POSIX_C_SOURCE 200809L
 #include "chance.h"
 #include "reading.h"
@@ -205,7 +206,8 @@ static int64_t change(const struct change *c) {
     size_t whole = seen(first, c), len = whole;
     memcpy(ops, first, whole * sizeof *ops);
     for (;;) {
-        int strikes = waiting && tally.failures < FAILURES && (cut ? chance(3) == 0 : patience ? len > (patience == 1 ? 1 : 5) : chance(dive > DIVES - 4 ? 2 : 20) == 0);
+        int strikes = waiting && tally.failures < FAILURES &&
+                      (cut ? chance(3) == 0 : patience ? len > (patience == 1 ? 1 : 5) : chance(dive > DIVES - 4 ? 2 : 20) == 0);
         if (!strikes) break;
         struct cut *this_cut = &cuts[tally.failures];
         int happened = fail(c, ops, len, 1 + chance((uint32_t)len));
@@ -363,8 +365,8 @@ static void report_costs(void) {
 
 static void list_cuts(void) {
     for (size_t i = 0; i < tally.failures; i++) {
-        printf("  day %4d  %-6s %-13s cut at operation %2zu of %2zu, in %-8s  the map %s, cost ", 10 * cuts[i].dive, cuts[i].call, cuts[i].key, cuts[i].at, cuts[i].of,
-               cuts[i].during, cuts[i].happened ? "after it" : "before it");
+        printf("  day %4d  %-6s %-13s cut at operation %2zu of %2zu, in %-8s  the map %s, cost ", 10 * cuts[i].dive, cuts[i].call, cuts[i].key,
+               cuts[i].at, cuts[i].of, cuts[i].during, cuts[i].happened ? "after it" : "before it");
         print_cost(cuts[i].erases, cuts[i].writes);
         printf("\n");
     }
@@ -390,7 +392,7 @@ static void report_wear(size_t *least, size_t *most) {
 }
 
 static void report_bound(const char *what, size_t seen_here, size_t bound, const char *form) {
-    printf("  %-42s %8s   %8s  %s\n", what, counted(seen_here), counted(bound), form);
+    printf("  %-28s %8s   %8s   %s\n", what, counted(seen_here), counted(bound), form);
     if (seen_here > bound) die("a bound is broken: %s", what);
 }
 
@@ -411,17 +413,21 @@ static void report_ring(void) {
 static void report(uint64_t seed, int list) {
     size_t room = FLOATSTORE_ROOM(blocks), least, most, n = tally.accepted, q = tally.failures;
     printf("A float's life: five years, %d dives, a chip of %zu blocks with room for %s keys (seed %" PRIu64 ")\n\n", DIVES, blocks, counted(room), seed);
-    printf("calls: %s puts, %s deletes, %s gets, %s starts, %s counts\n", counted(tally.puts), counted(tally.deletes), counted(tally.gets), counted(tally.starts),
-           counted(tally.counts));
+    printf("calls: %s puts, %s deletes, %s gets, %s starts, %s counts\n", counted(tally.puts), counted(tally.deletes), counted(tally.gets),
+           counted(tally.starts), counted(tally.counts));
     if (tally.no_room) printf("room: %s puts under the winter's ice found none, and the oldest measurement was given up for each\n", counted(tally.no_room));
     else printf("room: there was always some\n");
-    printf("chip: %s page writes and %s erases for %s puts and deletes that were accepted or cut short\n\n", counted(tally.writes), counted(tally.erases), counted(n));
-    printf("power failures: %zu, of them %zu in the write of a record, %zu of a copy, %zu of a seal, %zu in an erase\n", q, tally.in_record, tally.in_copy, tally.in_seal, tally.in_erase);
+    printf("chip: %s page writes and %s erases for %s puts and deletes that were accepted or cut short\n\n", counted(tally.writes),
+           counted(tally.erases), counted(n));
+    printf("power failures: %zu, of them %zu in the write of a record, %zu of a copy, %zu of a seal, %zu in an erase\n", q, tally.in_record,
+           tally.in_copy, tally.in_seal, tally.in_erase);
     printf("  after the next start: %zu times the map before the call, %zu times the one after it, never anything else\n", tally.before, tally.after);
     report_costs();
     if (list) list_cuts();
+    else printf("  (./life --cuts lists each of them)\n");
     report_wear(&least, &most);
-    printf("\nbounds, for n = %s puts and deletes and q = %zu power failures          seen      bound\n", counted(n), q);
+    printf("\nbounds, for n = %s puts and deletes and q = %zu power failures:\n", counted(n), q);
+    printf("  %-28s %8s   %8s\n", "", "seen", "bound");
     report_bound("erases in all", wear.all, n / 7 + q, "n/7 + q");
     report_bound("two blocks' erases differ by", most - least, 1 + q, "1 + q");
     report_bound("erases in one call", tally.worst_erases, room / 15 + 1, "8(B-2)/15 + 1");
@@ -439,31 +445,16 @@ static void keep_image(const char *name) {
     printf("image: %s has the chip as it is now; tools/floatstore reads it\n", name);
 }
 
-static uint64_t number_of(const char *word) {
-    char *end;
-    unsigned long long n = strtoull(word, &end, 10);
-    if (*word < '0' || *word > '9' || *end) die("'%s' is no number", word);
-    return n;
-}
-
 int main(int argc, char **argv) {
-    uint64_t seed = 1;
-    int list = 0;
-    const char *image = NULL;
-    blocks = 16;
-    for (int i = 1; i < argc; i++) {
-        if (strcmp(argv[i], "--cuts") == 0) list = 1;
-        else if (strcmp(argv[i], "--blocks") == 0 && i + 1 < argc) blocks = number_of(argv[++i]);
-        else if (strcmp(argv[i], "--seed") == 0 && i + 1 < argc) seed = number_of(argv[++i]);
-        else if (strcmp(argv[i], "--image") == 0 && i + 1 < argc) image = argv[++i];
-        else die("usage: life [--blocks B] [--seed N] [--cuts] [--image FILE]");
-    }
+    if (argc < 4 || argc > 5) die("usage: life BLOCKS SEED LIST [IMAGE]; people call ./life");
+    blocks = strtoul(argv[1], NULL, 10);
+    uint64_t seed = strtoull(argv[2], NULL, 10);
     if (blocks < FLOATSTORE_MIN_BLOCKS || blocks > MAX_BLOCKS) die("a life is for 4 to %d blocks", MAX_BLOCKS);
     if (!make_world(&now, blocks)) die("no memory");
     memset(now.chip, 0xFF, now.chip_len); /* as the maker ships it */
     chance_state = seed * 1000003;
     live();
-    report(seed, list);
-    if (image) keep_image(image);
+    report(seed, argv[3][0] == '1');
+    if (argc == 5) keep_image(argv[4]);
     return 0;
 }

@@ -14,44 +14,48 @@ int page_is_sound(const uint8_t *page) {
     return 1;
 }
 
-/* 1 a value, 2 a note, 0 nothing (section 3 of the format) */
-static int says(const uint8_t *page) {
+/* Section 3 of the format. */
+int page_says(const uint8_t *page) {
     if (!page_is_sound(page) || page[0] != 1 || page[2] < 1 || page[2] > 16) return 0;
     if (page[1] == 1 && page[3] <= 96) return 1;
     return page[1] == 2 && page[3] == 0 ? 2 : 0;
 }
 
-static int is_sealed(const uint8_t *chip, size_t block) { return !page_is_blank(chip + 4096 * block + 256 * 15); }
+int block_is_sealed(const uint8_t *chip, size_t block) { return !page_is_blank(chip + 4096 * block + 256 * 15); }
 
 /* ---- where the ring stands (section 4) */
 
 static size_t find_head(const uint8_t *chip, size_t blocks) {
     for (size_t h = 1; h < blocks; h++)
-        if (is_sealed(chip, h - 1) && !is_sealed(chip, h)) return h;
+        if (block_is_sealed(chip, h - 1) && !block_is_sealed(chip, h)) return h;
     return 0;
 }
 
 static int all_sealed_but(const uint8_t *chip, size_t blocks, size_t a, size_t b) {
     for (size_t x = 0; x < blocks; x++)
-        if (x != a && x != b && !is_sealed(chip, x)) return 0;
+        if (x != a && x != b && !block_is_sealed(chip, x)) return 0;
     return 1;
 }
 
 static int first_round(const uint8_t *chip, size_t blocks, size_t head) {
     for (size_t x = 0; x < head; x++)
-        if (!is_sealed(chip, x)) return 0;
+        if (!block_is_sealed(chip, x)) return 0;
     for (size_t p = 16 * head + 16; p < 16 * blocks; p++)
         if (!page_is_blank(chip + 256 * p)) return 0;
     return 1;
 }
 
-static void find_ring(struct reading *r, const uint8_t *chip) {
-    r->head = find_head(chip, r->blocks);
+static void place_ring(struct reading *r, const uint8_t *chip, size_t head) {
+    r->head = head;
     r->spare = (r->head + 1) % r->blocks;
     r->oldest = (r->head + 2) % r->blocks;
-    r->later = all_sealed_but(chip, r->blocks, r->head, r->spare);
-    r->is_ring = !is_sealed(chip, r->head) && (r->later || first_round(chip, r->blocks, r->head));
     for (r->next = 15; r->next > 0 && page_is_blank(chip + 4096 * r->head + 256 * (r->next - 1));) r->next--;
+}
+
+static void find_ring(struct reading *r, const uint8_t *chip) {
+    place_ring(r, chip, find_head(chip, r->blocks));
+    r->later = all_sealed_but(chip, r->blocks, r->head, r->spare);
+    r->is_ring = !block_is_sealed(chip, r->head) && (r->later || first_round(chip, r->blocks, r->head));
 }
 
 /* ---- the log replayed: a table from keys to the page of their value, hashed */
@@ -70,43 +74,125 @@ static size_t slot(const uint8_t *chip, const uint32_t *table, size_t size, cons
 
 /* A page of the log. A key that was seen keeps its slot, so that the table needs no removal; its live page has the kind LIVE. */
 static void replay(struct reading *r, const uint8_t *chip, uint32_t *table, size_t size, size_t p) {
-    int what = says(chip + 256 * p);
+    int what = page_says(chip + 256 * p);
     if (!what) return;
     size_t i = slot(chip, table, size, chip + 256 * p);
     if (table[i] && r->kinds[table[i] - 1] == LIVE) r->kinds[table[i] - 1] = OLD, r->keys--;
+    if (table[i]) r->newest[table[i] - 1] = 0;
     table[i] = (uint32_t)p + 1;
+    r->newest[p] = 1;
     if (what == 1) r->kinds[p] = LIVE, r->keys++;
 }
 
 static char kind_of(const uint8_t *page) {
     if (page_is_blank(page)) return BLANK;
     if (!page_is_sound(page)) return SPOILT;
-    int what = says(page);
+    int what = page_says(page);
     if (what) return what == 1 ? OLD : NOTE;
     return page[0] == 1 && page[1] == 3 ? SEAL : OTHER;
 }
 
-int read_chip(struct reading *r, const uint8_t *chip, size_t blocks) {
-    size_t size = 32 * blocks;
-    uint32_t *table = calloc(size, sizeof *table);
+static int read_pages(struct reading *r, const uint8_t *chip, size_t blocks) {
     memset(r, 0, sizeof *r);
     r->blocks = blocks;
     r->kinds = malloc(16 * blocks);
-    if (!table || !r->kinds) return free(table), free(r->kinds), 0;
+    r->newest = calloc(16 * blocks, 1);
+    if (!r->kinds || !r->newest) return forget_reading(r), 0;
     for (size_t p = 0; p < 16 * blocks; p++) r->kinds[p] = kind_of(chip + 256 * p);
-    find_ring(r, chip);
-    for (size_t x = r->head + 2; r->is_ring && x <= r->head + blocks; x++)
-        for (size_t j = 0; j < 15; j++) replay(r, chip, table, size, 16 * (x % blocks) + j);
-    for (size_t p = 0; p < 16 * blocks; p++) r->of[(size_t)r->kinds[p]]++;
+    return 1;
+}
+
+static int read_log(struct reading *r, const uint8_t *chip) {
+    size_t size = 32 * r->blocks;
+    uint32_t *table = calloc(size, sizeof *table);
+    if (!table) return forget_reading(r), 0;
+    for (size_t x = r->head + 2; r->is_ring && x <= r->head + r->blocks; x++)
+        for (size_t j = 0; j < 15; j++) replay(r, chip, table, size, 16 * (x % r->blocks) + j);
+    for (size_t p = 0; p < 16 * r->blocks; p++) r->of[(size_t)r->kinds[p]]++;
     free(table);
     return 1;
 }
 
-void forget_reading(struct reading *r) { free(r->kinds); }
+int read_chip(struct reading *r, const uint8_t *chip, size_t blocks) {
+    if (!read_pages(r, chip, blocks)) return 0;
+    find_ring(r, chip);
+    return read_log(r, chip);
+}
+
+int read_as(struct reading *r, const uint8_t *chip, size_t blocks, const struct guess *g) {
+    if (!read_pages(r, chip, blocks)) return 0;
+    place_ring(r, chip, g->head);
+    r->later = g->later;
+    r->is_ring = 1;
+    return read_log(r, chip);
+}
+
+size_t log_place(const struct reading *r, size_t page) { return 16 * ((page / 16 + r->blocks - r->spare) % r->blocks) + page % 16; }
+size_t log_page(const struct reading *r, size_t place) { return 16 * ((place / 16 + r->spare) % r->blocks) + place % 16; }
+
+/* ---- guesses at the ring */
+
+size_t page_zeros(const uint8_t *page) {
+    size_t zeros = 0;
+    for (size_t i = 0; i < 256; i++)
+        for (unsigned rest = 255u - page[i]; rest; rest &= rest - 1) zeros++;
+    return zeros;
+}
+
+static size_t at_most_whole(size_t bits) { return bits < WHOLE ? bits : WHOLE; }
+
+static size_t block_zeros(const uint8_t *chip, size_t block) {
+    size_t zeros = 0;
+    for (size_t j = 0; j < 16 && zeros < WHOLE; j++) zeros += page_zeros(chip + 4096 * block + 256 * j);
+    return at_most_whole(zeros);
+}
+
+static size_t cost_of_no_seal(const uint8_t *chip, size_t block) { return at_most_whole(page_zeros(chip + 4096 * block + 256 * 15)); }
+static size_t cost_of_a_seal(const uint8_t *chip, size_t block) { return block_is_sealed(chip, block) ? 0 : WHOLE; }
+
+size_t block_cost(const struct guess *g, const uint8_t *chip, size_t blocks, size_t block) {
+    if (block == g->head) return cost_of_no_seal(chip, block);
+    if (g->later) return block == (g->head + 1) % blocks ? 0 : cost_of_a_seal(chip, block);
+    return block < g->head ? cost_of_a_seal(chip, block) : block_zeros(chip, block);
+}
+
+static int better(const void *a, const void *b) {
+    const struct guess *x = a, *y = b;
+    if (x->cost != y->cost) return x->cost < y->cost ? -1 : 1;
+    if (x->looks != y->looks) return x->looks < y->looks ? -1 : 1;
+    if (x->later != y->later) return y->later - x->later;
+    return x->head == y->head ? 0 : (x->head < y->head) == x->later ? -1 : 1;
+}
+
+static enum looks looks_of(const uint8_t *chip, size_t block) {
+    int first = page_is_blank(chip + 4096 * block), last = page_is_blank(chip + 4096 * block + 256 * 14);
+    return !last ? FULL : first ? EMPTY : OPEN;
+}
+
+/* In one pass for each round: the sum over all blocks, and what the head and the spare take off it. */
+void guess_rings(struct guess *all, const uint8_t *chip, size_t blocks) {
+    size_t seals = 0, below = 0, above = 0;
+    for (size_t x = 0; x < blocks; x++) seals += cost_of_a_seal(chip, x), above += block_zeros(chip, x);
+    for (size_t h = 0; h < blocks; h++) {
+        size_t spare = (h + 1) % blocks, blank = block_zeros(chip, h);
+        above -= blank;
+        all[h] = (struct guess){h, below + cost_of_no_seal(chip, h) + above, 0, looks_of(chip, h)};
+        size_t rest = seals - cost_of_a_seal(chip, h) - cost_of_a_seal(chip, spare);
+        all[blocks + h] = (struct guess){h, rest + cost_of_no_seal(chip, h), 1, looks_of(chip, h)};
+        below += cost_of_a_seal(chip, h);
+    }
+    qsort(all, 2 * blocks, sizeof *all, better);
+}
+
+void forget_reading(struct reading *r) {
+    free(r->kinds);
+    free(r->newest);
+    r->kinds = NULL, r->newest = NULL;
+}
 
 const char *block_role(const struct reading *r, const uint8_t *chip, size_t block) {
-    if (!r->is_ring) return is_sealed(chip, block) ? "sealed" : "";
+    if (!r->is_ring) return block_is_sealed(chip, block) ? "sealed" : "";
     if (block == r->head) return "head";
-    if (!r->later) return is_sealed(chip, block) ? "sealed" : "unused";
+    if (!r->later) return block_is_sealed(chip, block) ? "sealed" : "unused";
     return block == r->spare ? "spare" : block == r->oldest ? "oldest" : "sealed";
 }

@@ -22,6 +22,7 @@ struct reading {
     size_t keys; /* of the map */
     size_t of[128]; /* how many pages of each kind */
     char *kinds; /* of each page */
+    uint8_t *newest; /* of each page: whether it is the last record of its key in the log */
 };
 
 int page_is_blank(const uint8_t *page);
@@ -30,6 +31,33 @@ int page_is_sound(const uint8_t *page);
 /* Reads a chip of an allowed size. Answers 0 where memory is short. */
 int read_chip(struct reading *r, const uint8_t *chip, size_t blocks);
 void forget_reading(struct reading *r);
+
+/* 1 a value, 2 a note of a deletion, 0 nothing. */
+int page_says(const uint8_t *page);
+int block_is_sealed(const uint8_t *chip, size_t block);
+size_t page_zeros(const uint8_t *page); /* how many of its bits are 0 */
+
+/* A ring that the chip may have been: head and round, and how many bits must be wrong for that, a block counting for WHOLE at most, since a block that is
+ * wrong throughout is one fault. 0 for the ring that start finds. */
+enum { WHOLE = 64 };
+enum looks { OPEN, FULL, EMPTY }; /* a head: some pages written, then blank ones; none blank; all blank, which it is but for a moment */
+struct guess {
+    size_t head, cost;
+    int later;
+    enum looks looks;
+};
+
+/* All 2 B guesses, best first: by cost, then by looks, then later rounds; in the first round the later head, since a seal is lost more easily than a
+ * block is made. */
+void guess_rings(struct guess *all, const uint8_t *chip, size_t blocks);
+size_t block_cost(const struct guess *g, const uint8_t *chip, size_t blocks, size_t block); /* what the block adds to the cost */
+
+/* Reads a chip as if its ring were the guessed one. Answers 0 where memory is short. */
+int read_as(struct reading *r, const uint8_t *chip, size_t blocks, const struct guess *g);
+
+/* The place of a page in the log, oldest first, from 0; the spare's pages come before all others, and are not of the log. */
+size_t log_place(const struct reading *r, size_t page);
+size_t log_page(const struct reading *r, size_t place); /* the other way */
 
 /* "head", "spare", "oldest", "sealed" or "unused": what a block is to the ring. */
 const char *block_role(const struct reading *r, const uint8_t *chip, size_t block);

@@ -10,7 +10,7 @@ ghost use Rattle.start.specs.Started.{StartEnds};
 ghost use Rattle.format.specs.Formatted.{FormatEnds};
 ghost use Rattle.keys.specs.Next.{NextEnds};
 ghost use Rattle.survey.specs.Seen.{Sees};
-ghost use Rattle.floatstore.specs.Numbers.{numberOf, held, Answers};
+ghost use Rattle.floatstore.specs.Numbers.{numberOf, held, Answers, versionNumber};
 ghost use lib.IntN.{pos, negℤ};
 
 // A number that an i64 holds.
@@ -38,6 +38,14 @@ fn number(a: Answer) -> i64
         Answer::Done(n) => hold(n),
         Answer::Refused(k) => minus(k),
     }
+}
+
+// The version of this library, as one number.
+#[no_mangle]
+pub extern "C" fn floatstore_version() -> i64
+    ensures { λ r. ⌜ r ≡ pos versionNumber ⌝ }
+{
+    900
 }
 
 // Erases every block; the map is empty. A start must follow it.
