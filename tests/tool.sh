@@ -1,15 +1,7 @@
 #!/usr/bin/env bash
 # The tool: every old command and every error. What fails must end with its status (1 refused, 2 misused, 3 damaged) and one line on standard error, and leave
 # the image as it was. Salvage, what is asked at once, and what looks at pages: tests/tool_*.sh.
-cd "$(dirname "$0")/.." || exit 1
-top=$PWD
-tools/floatstore_build.sh || exit 1
-room=$(mktemp -d) || exit 1
-trap 'rm -rf "$room"' EXIT
-cd "$room" || exit 1
-tests=0 wrong=0
-complain() { wrong=$((wrong + 1)); echo "$*"; }
-tool() { "$top/tools/run.sh" "$top/target/c/floatstore" "$@"; }
+. "$(dirname "$0")/tool.inc"
 
 # says WANTED WORDS..: the command succeeds and writes just that
 says() {

@@ -1,15 +1,7 @@
 #!/usr/bin/env bash
 # The tool's newer commands: dump, diff, history, export and import, values from standard input and files, --offset, --version, -h, the picture of a large chip,
 # the man page and the completion.
-cd "$(dirname "$0")/.." || exit 1
-top=$PWD
-tools/floatstore_build.sh || exit 1
-room=$(mktemp -d) || exit 1
-trap 'rm -rf "$room"' EXIT
-cd "$room" || exit 1
-wrong=0
-complain() { wrong=$((wrong + 1)); echo "$*"; }
-tool() { "$top/tools/run.sh" "$top/target/c/floatstore" "$@"; }
+. "$(dirname "$0")/tool.inc"
 # says WANTED WORDS..: it succeeds and writes just that; ends STATUS PART WORDS..: it ends so, and says that on either channel
 says() {
   local want=$1 got

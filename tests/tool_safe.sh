@@ -1,15 +1,7 @@
 #!/usr/bin/env bash
 # Nothing is lost by the tool: a picture over an image, an image that may not be written, owner, mode and links, forty puts at once, format of what isn't blank,
 # a disk that is full, a change that this machine didn't survive, and what is said of a chip that start refuses.
-cd "$(dirname "$0")/.." || exit 1
-top=$PWD
-tools/floatstore_build.sh || exit 1
-room=$(mktemp -d) || exit 1
-trap 'rm -rf "$room"' EXIT
-cd "$room" || exit 1
-wrong=0
-complain() { wrong=$((wrong + 1)); echo "$*"; }
-tool() { "$top/tools/run.sh" "$top/target/c/floatstore" "$@"; }
+. "$(dirname "$0")/tool.inc"
 # kept STATUS PART WORDS..: the command ends so, says that, and no file here is another afterwards
 kept() {
   local status=$1 want=$2 before

@@ -1,15 +1,7 @@
 #!/usr/bin/env bash
 # salvage: one flipped bit in page 15 of the head, a lost note, a wrong block: what was lost and what wasn't. And on chips with a block or a page that is
 # wrong at random, of each key that salvage calls sure: it has the value that was put last.
-cd "$(dirname "$0")/.." || exit 1
-top=$PWD
-tools/floatstore_build.sh || exit 1
-room=$(mktemp -d) || exit 1
-trap 'rm -rf "$room"' EXIT
-cd "$room" || exit 1
-wrong=0
-complain() { wrong=$((wrong + 1)); echo "$*"; }
-tool() { "$top/tools/run.sh" "$top/target/c/floatstore" "$@"; }
+. "$(dirname "$0")/tool.inc"
 # shows IMAGE PATTERN: salvage ends with status 0 and has such a line
 shows() {
   tool salvage "$1" >out 2>said || complain "salvage $1: failed: $(cat said)"
