@@ -1,8 +1,7 @@
 -- EVERY HISTORY: a blank chip, as a format leaves it, or any chip of this store, as an earlier program may have left it; then calls of the store and failures
 -- of the power, in any order and with any arguments, each call but start after a start that succeeded, each start with any fault script and any work area;
 -- and between two calls the script may be lent anew, so that each operation may be cut in its own way. The steps are the contracts of the public calls, word
--- for word (crates/store/specs/Calls.antt, last part, and `NextEnds` of crates/keys/specs/Next.antt): whatever the code may do, it is one of these. Assumes
--- nothing.
+-- for word (`PutEnds` and `DeleteEnds`, `GetEnds` and `CountEnds`, `NextEnds`, `StartEnds`): whatever the code may do, it is one of these. Assumes nothing.
 use mathlib.Core.Path.{_≡_}
 use mathlib.Core.Logic.{_⊎_}
 use mathlib.Core.List.{List, [], _++_}
