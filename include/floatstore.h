@@ -2,10 +2,12 @@
  *
  * To its caller the store is a map: a key of 1 to 16 bytes (0x21 to 0x7E) has a value of 0 to 96 bytes, or none. Whatever a call but
  * format was doing when the power failed, after the next floatstore_start the map is the one before that call or the one after it.
- * floatstore_fs.h has the same calls with less to write, floatstore_text.h the answers in words.
+ * floatstore_fs.h has the same calls with less to write, floatstore_text.h the answers in words, floatstore_driver.h the calls for a
+ * chip behind a driver of yours.
  * The library behind this header, libfloatstore.a, is proved: docs/STATEMENTS.md says sentence by sentence what.
  *
- * WHAT YOU LEND. The store has no memory of its own and calls nothing but memcpy and memset: no malloc, no clock, no interrupts.
+ * WHAT YOU LEND. The store has no memory of its own and calls nothing but memcpy and memset (and, on a processor of 32 bits, its
+ * compiler's division of 64 bits): no malloc, no clock, no interrupts.
  *   chip   the chip's bytes, chip_len = FLOATSTORE_CHIP_LEN(B) for B blocks, FLOATSTORE_MIN_BLOCKS <= B <= FLOATSTORE_MAX_BLOCKS.
  *          A blank chip (all bytes 0xFF) is a store with an empty map; nothing has to be written before its first start.
  *   work   memory for the store's index, work_len = FLOATSTORE_WORK_LEN(B) WORDS of 32 bits or more, not bytes. Its content means
@@ -86,6 +88,15 @@ enum floatstore_refusal {
     FLOATSTORE_NUMBERS_OUT = 9 /* numbers have run out: this design has none, so it is never answered */
 };
 
+/* What a start saw of the chip's pages, for those who compare chips: a page is blank (all 0xFF), sound (its second half is the
+ * flipped copy of the first), or spoilt, as a cut write or erase leaves it. */
+struct floatstore_seen {
+    uint64_t blank, sound, spoilt; /* how many pages of each kind: together 16 B */
+    uint64_t page, byte; /* if spoilt > 0: the first spoilt page, and the lowest byte (0 to 127) at which it and its copy disagree */
+};
+
+#ifndef FLOATSTORE_DRIVER_H /* floatstore_driver.h takes all that is above, and has these calls without fuse and noise */
+
 /* The library's own version: FLOATSTORE_VERSION_NUMBER, if header and library are of one age. */
 int64_t floatstore_version(void);
 
@@ -94,13 +105,6 @@ int64_t floatstore_format(uint8_t *chip, size_t chip_len, uint32_t *work, size_t
 
 /* Reads the chip and makes the store ready; the map is the one that was there. It writes nothing to the chip, so it can't be cut. */
 int64_t floatstore_start(const uint8_t *chip, size_t chip_len, uint32_t *work, size_t work_len, const uint64_t *fuse);
-
-/* What a start saw of the chip's pages, for those who compare chips: a page is blank (all 0xFF), sound (its second half is the
- * flipped copy of the first), or spoilt, as a cut write or erase leaves it. */
-struct floatstore_seen {
-    uint64_t blank, sound, spoilt; /* how many pages of each kind: together 16 B */
-    uint64_t page, byte; /* if spoilt > 0: the first spoilt page, and the lowest byte (0 to 127) at which it and its copy disagree */
-};
 
 /* The same start, which also looks at every page and fills *seen, where it is done and where it is refused with 8: a chip that is
  * no store can be looked at. Refused with 5 or 7 it leaves *seen as it was. */
@@ -130,6 +134,8 @@ int64_t floatstore_count(const uint8_t *chip, size_t chip_len, const uint32_t *w
  * is given. */
 int64_t floatstore_next(const uint8_t *chip, size_t chip_len, const uint32_t *work, size_t work_len, const uint64_t *fuse,
                         const uint8_t *key, size_t key_len, uint8_t *buffer, size_t buffer_len);
+
+#endif
 
 #ifdef __cplusplus
 }

@@ -13,6 +13,9 @@
 #ifndef FLOATSTORE_FS_H
 #define FLOATSTORE_FS_H
 
+#ifdef FLOATSTORE_DRIVER_H
+#error "floatstore_fs.h is for a chip that is memory: it has no calls for floatstore_driver.h"
+#endif
 #include "floatstore.h"
 #include "floatstore_text.h"
 

@@ -2,7 +2,8 @@
 # Documents and headers have lines of at most 160 characters, but for the rows of tables, which markdown can't break; README's table of sizes is what
 # tools/sizes.sh prints; and what README and the documents link to is there. And what isn't so is found.
 cd "$(dirname "$0")/.." || exit 1
-texts='README.md CHANGELOG.md CONTRIBUTING.md include/floatstore.h include/floatstore_fs.h include/floatstore_text.h examples/firmware.c life'
+texts='README.md CHANGELOG.md CONTRIBUTING.md include/floatstore.h include/floatstore_fs.h include/floatstore_text.h include/floatstore_driver.h examples/firmware.c life'
+texts="$texts $(echo examples/port/*)"
 texts="$texts $(echo docs/*.md docs/changes/*.md)"
 
 # faults DIR: what is wrong there, a line each

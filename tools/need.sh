@@ -2,6 +2,11 @@
 # need.sh COMMAND PACKAGE..: where the command is missing, says what would be installed and how, and only then installs Debian's packages: as root at once,
 # else by sudo, which asks for itself. Where there is no apt-get or no sudo it says what is missing, and fails.
 command -v "$1" >/dev/null 2>&1 && exit 0
+# apt-get doesn't wait for another of its kind: of several at a time the first installs, and the others find it done
+if command -v flock >/dev/null 2>&1; then
+  exec 9<"$0" && flock 9
+  command -v "$1" >/dev/null 2>&1 && exit 0
+fi
 command=$1
 shift
 if ! command -v apt-get >/dev/null 2>&1; then

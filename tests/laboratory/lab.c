@@ -3,95 +3,32 @@
  * Each put and delete is cut at every one of its operations, on copies of the chip, with noise that an adversary chose; a cut erase leaves forged blocks (docs/FAULTS.md).
  * After each cut the map must be the one before or the one after, and then the call is tried again and cut again, three deep. The history itself goes on whole or through
  * a cut. What the store does to the chip is seen from outside (tools/watch.h): erases and writes are counted without a word from the store, and a write to a page that
- * isn't blank is found.
- *
- *   lab library|twin|both|bugN SECONDS [SEED]      0: nothing found; 1: found, with the way to it; 2: bad usage
- *
- * library: the proved one; twin: one in plain C (twin.c); both: the first, and the second on a copy of the chip must leave the same bytes; bugN: a twin with a
- * planted fault, which must be found. Histories are numbered from SEED on (1), and are the same on every machine. */
+ * isn't blank is found. Two programs bring it a store: stores.c and driven.c. */
+#include "lab.h"
 #include "chance.h"
-#include "twin.h"
-#include "watch.h"
-#include <floatstore.h>
 #include <stdarg.h>
 #include <stdio.h>
 #include <stdlib.h>
 #include <string.h>
 #include <time.h>
 
-enum { MAX_B = 16, ROOM = 8 * (MAX_B - 2), KEYS = ROOM + 8, MAX_OPS = 256, DEPTH = 3, PAGE = FLOATSTORE_PAGE, BLOCK = FLOATSTORE_BLOCK };
+enum { MAX_OPS = 256, DEPTH = 3, PAGE = FLOATSTORE_PAGE, BLOCK = FLOATSTORE_BLOCK };
 
-struct store {
-    int64_t (*format)(uint8_t *, size_t, uint32_t *, size_t, uint64_t *, const uint8_t *);
-    int64_t (*start)(const uint8_t *, size_t, uint32_t *, size_t, const uint64_t *);
-    int64_t (*put)(uint8_t *, size_t, uint32_t *, size_t, uint64_t *, const uint8_t *, const uint8_t *, size_t, const uint8_t *, size_t);
-    int64_t (*get)(const uint8_t *, size_t, const uint32_t *, size_t, const uint64_t *, const uint8_t *, size_t, uint8_t *, size_t);
-    int64_t (*delete)(uint8_t *, size_t, uint32_t *, size_t, uint64_t *, const uint8_t *, const uint8_t *, size_t);
-    int64_t (*count)(const uint8_t *, size_t, const uint32_t *, size_t, const uint64_t *);
-    int64_t (*next)(const uint8_t *, size_t, const uint32_t *, size_t, const uint64_t *, const uint8_t *, size_t, uint8_t *, size_t); /* the twin has none */
-};
-static const struct store library = {floatstore_format, floatstore_start, floatstore_put, floatstore_get, floatstore_delete, floatstore_count, floatstore_next};
-static const struct store twin = {twin_format, twin_start, twin_put, twin_get, twin_delete, twin_count, NULL};
+const struct store library = {floatstore_format, floatstore_start, floatstore_put, floatstore_get, floatstore_delete,
+                              floatstore_count, floatstore_next, floatstore_start_seeing, NULL};
 static const struct store *store;
 
-static void found(const char *form, ...);
-
-/* The twin makes the same change on a copy of the chip. What it must answer and leave is what the library did. */
-static void mirror(const uint8_t *before, uint64_t fuse, int64_t answer, const uint8_t *chip, size_t len, uint64_t left, const uint8_t *noise, const uint8_t *key,
-                   size_t key_len, const uint8_t *value, size_t value_len) {
-    static uint8_t own[FLOATSTORE_CHIP_LEN(MAX_B)];
-    static uint32_t work[FLOATSTORE_WORK_LEN(MAX_B)];
-    const uint64_t lit = 1;
-    if (answer == -7 && left == fuse) return; /* the power was gone before */
-    memcpy(own, before, len);
-    if (twin_start(own, len, work, FLOATSTORE_WORK_LEN(MAX_B), &lit) != 0) found("the twin can't read the chip");
-    int64_t twins = value ? twin_put(own, len, work, FLOATSTORE_WORK_LEN(MAX_B), &fuse, noise, key, key_len, value, value_len)
-                          : twin_delete(own, len, work, FLOATSTORE_WORK_LEN(MAX_B), &fuse, noise, key, key_len);
-    if (twins != answer || fuse != left || memcmp(own, chip, len) != 0) found("library and twin differ");
-}
-
-static int64_t both_put(uint8_t *chip, size_t len, uint32_t *work, size_t work_len, uint64_t *fuse, const uint8_t *noise, const uint8_t *key, size_t key_len,
-                        const uint8_t *value, size_t value_len) {
-    static uint8_t before[FLOATSTORE_CHIP_LEN(MAX_B)];
-    uint64_t full = *fuse;
-    memcpy(before, chip, len);
-    int64_t answer = floatstore_put(chip, len, work, work_len, fuse, noise, key, key_len, value, value_len);
-    mirror(before, full, answer, chip, len, *fuse, noise, key, key_len, value, value_len);
-    return answer;
-}
-
-static int64_t both_delete(uint8_t *chip, size_t len, uint32_t *work, size_t work_len, uint64_t *fuse, const uint8_t *noise, const uint8_t *key, size_t key_len) {
-    static uint8_t before[FLOATSTORE_CHIP_LEN(MAX_B)];
-    uint64_t full = *fuse;
-    memcpy(before, chip, len);
-    int64_t answer = floatstore_delete(chip, len, work, work_len, fuse, noise, key, key_len);
-    mirror(before, full, answer, chip, len, *fuse, noise, key, key_len, NULL, 0);
-    return answer;
-}
-
-static const struct store both = {floatstore_format, floatstore_start, both_put, floatstore_get, both_delete, floatstore_count, floatstore_next};
+uint32_t draw(uint32_t below) { return chance(below); }
 
 /* ---- the model: keys are numbered, and the map is an array */
 
-struct entry {
-    uint8_t has, len, value[96];
-};
-struct map {
-    struct entry of[KEYS];
-    size_t count;
-};
-struct change {
-    size_t key;
-    struct entry to; /* what the key has afterwards */
-};
-
 /* Keys of one byte and its repetitions: many are beginnings of others. */
-static size_t key_of(size_t i, uint8_t *key) {
+size_t key_of(size_t i, uint8_t *key) {
     memset(key, 'A' + (int)(i / 16), 16);
     return 1 + i % 16;
 }
 
-static void make(struct map *m, const struct change *c) {
+void make(struct map *m, const struct change *c) {
     m->count += c->to.has;
     m->count -= m->of[c->key].has;
     m->of[c->key] = c->to;
@@ -101,14 +38,14 @@ static void make(struct map *m, const struct change *c) {
 
 static size_t blocks;
 
-static int64_t start(struct world *w) { return store->start(w->chip, w->chip_len, w->work, w->work_len, &w->fuse); }
-static int64_t count(struct world *w) { return store->count(w->chip, w->chip_len, w->work, w->work_len, &w->fuse); }
-static int64_t get(struct world *w, size_t i, uint8_t *buffer, size_t len) {
+int64_t start(struct world *w) { return store->start(w->chip, w->chip_len, w->work, w->work_len, &w->fuse); }
+int64_t count(struct world *w) { return store->count(w->chip, w->chip_len, w->work, w->work_len, &w->fuse); }
+int64_t get(struct world *w, size_t i, uint8_t *buffer, size_t len) {
     uint8_t key[16];
     size_t key_len = key_of(i, key);
     return store->get(w->chip, w->chip_len, w->work, w->work_len, &w->fuse, key, key_len, buffer, len);
 }
-static int64_t run(struct world *w, const struct change *c, const uint8_t *noise) {
+int64_t run(struct world *w, const struct change *c, const uint8_t *noise) {
     uint8_t key[16];
     size_t key_len = key_of(c->key, key);
     if (c->to.has) return store->put(w->chip, w->chip_len, w->work, w->work_len, &w->fuse, noise, key, key_len, c->to.value, c->to.len);
@@ -122,7 +59,7 @@ static struct {
     const char *name, *at;
 } tally;
 
-static void found(const char *form, ...) {
+void found(const char *form, ...) {
     va_list words;
     va_start(words, form);
     printf("%s: FOUND in history %llu on %zu blocks, call %llu, after %llu power failures%s: ", tally.name, (unsigned long long)tally.seed, blocks,
@@ -164,6 +101,22 @@ static int same_by_walk(struct world *w, const struct map *m) {
         memcpy(last, given, last_len = (size_t)len);
     }
     return 1;
+}
+
+int same(struct world *w, const struct map *m) { return differs(w, m) == KEYS && same_by_walk(w, m); }
+
+/* Skipped where the power was gone before the call. */
+void mirror(const struct store *other, const struct did *d) {
+    static uint8_t own[FLOATSTORE_CHIP_LEN(MAX_B)];
+    static uint32_t work[FLOATSTORE_WORK_LEN(MAX_B)];
+    const uint64_t lit = 1;
+    uint64_t fuse = d->fuse;
+    if (d->answer == -7 && d->left == fuse) return;
+    memcpy(own, d->before, d->len);
+    if (other->start(own, d->len, work, FLOATSTORE_WORK_LEN(MAX_B), &lit) != 0) found("the other store can't read the chip");
+    int64_t answer = d->value ? other->put(own, d->len, work, FLOATSTORE_WORK_LEN(MAX_B), &fuse, d->noise, d->key, d->key_len, d->value, d->value_len)
+                              : other->delete(own, d->len, work, FLOATSTORE_WORK_LEN(MAX_B), &fuse, d->noise, d->key, d->key_len);
+    if (answer != d->answer || fuse != d->left || memcmp(own, d->chip, d->len) != 0) found("the two stores differ");
 }
 
 /* ---- the adversary's noise. A cut write leaves new | noise; a cut erase leaves the noise itself, so that any block can be forged */
@@ -411,6 +364,7 @@ static void step(const struct change *c, uint32_t risk) {
         for (int kind = 0; kind < (op->kind == ERASE ? KINDS : NOISES); kind++)
             if (kind >= NOISES || kind == sure || chance(t.len > 1 ? 2 : 4) == 0) cut_deep(&now, &map, c, k, op, kind, 0);
     }
+    if (store->also) store->also(&now, &map, c);
     tally.changes++;
     size_t k = 1 + chance((uint32_t)t.len);
     if (risk && chance(risk) == 0) {
@@ -479,7 +433,7 @@ static void history(uint64_t seed) {
             if (chance(20) == 0 && start(&now) != 0) found("a start is refused");
             if (!key_agrees(&now, &map, c.key) || (chance(8) == 0 && differs(&now, &map) != KEYS)) found("the map is wrong after a whole call");
         }
-        if (differs(&now, &map) != KEYS || !same_by_walk(&now, &map)) found("the map is wrong at the end of a phase");
+        if (!same(&now, &map)) found("the map is wrong at the end of a phase");
     }
     tally.histories++;
 }
@@ -493,20 +447,14 @@ static void report(void) {
                    b, worst[b].erases, FLOATSTORE_ROOM(b) / 15 + 1, worst[b].writes, FLOATSTORE_ROOM(b) + b, worst[b].calm, worst[b].rough, 1 + worst[b].failures, worst[b].percent);
 }
 
-int main(int argc, char **argv) {
-    static char name[96];
-    if (argc < 3 || argc > 4) return fprintf(stderr, "usage: lab library|twin|both|bugN SECONDS [SEED]\n"), 2;
-    store = strcmp(argv[1], "library") == 0 ? &library : strcmp(argv[1], "both") == 0 ? &both : &twin;
-    if (store == &twin && strcmp(argv[1], "twin") != 0 && strncmp(argv[1], "bug", 3) != 0) return fprintf(stderr, "lab: %s is no store\n", argv[1]), 2;
-    if (strncmp(argv[1], "bug", 3) == 0) twin_bug = atoi(argv[1] + 3);
-    if (twin_bug < 0 || twin_bug >= BUGS) return fprintf(stderr, "lab: there is no such bug\n"), 2;
-    if (twin_bug) snprintf(name, sizeof name, "twin whose fault is '%s'", twin_bugs[twin_bug]);
-    tally.name = twin_bug ? name : argv[1];
+int laboratory(const char *name, const struct store *tried, const char *seconds, const char *first) {
+    store = tried;
+    tally.name = name;
     int room = make_world(&now, MAX_B) && make_world(&whole, MAX_B);
     for (int i = 0; i < DEPTH; i++) room = room && make_world(&worlds[i], MAX_B);
     if (!room) return fprintf(stderr, "lab: no memory\n"), 2;
-    time_t until = time(NULL) + atoi(argv[2]);
-    uint64_t seed = argc == 4 ? (uint64_t)strtoull(argv[3], NULL, 10) : 1;
+    time_t until = time(NULL) + atoi(seconds);
+    uint64_t seed = first ? (uint64_t)strtoull(first, NULL, 10) : 1;
     do history(seed++);
     while (time(NULL) < until || tally.histories < 4); /* each size once at least */
     report();

@@ -75,9 +75,6 @@ fn put_often(
     Answer::Done(0)
 }
 
-// The most bytes of a key or a value in a script.
-const LONGEST: usize = 128;
-
 // The call of a script's line: put KEY VALUE, delete KEY, start, format; or puts KEY N, which is N puts.
 pub fn make(
     line: &[u8],
@@ -86,13 +83,19 @@ pub fn make(
     fuse: &mut u64,
     noise: &[u8; 4096],
 ) -> Answer {
-    let mut key = [0u8; LONGEST];
+    let mut key = [0u8; trying::LONGEST];
     let k = trying::bytes(line, 1, &mut key);
-    let mut value = [0u8; LONGEST];
+    let mut value = [0u8; trying::LONGEST];
     let n = trying::bytes(line, 2, &mut value);
     let which = trying::verb(b"put delete start format puts", line);
     if which == 4 {
         return put_often(chip, work, fuse, noise, &key[..k], trying::numeral(line, 2));
     }
     call(which, chip, work, fuse, noise, &key[..k], &value[..n])
+}
+
+// The noise of that number. The page that is forged or kept is the one of "put a 2".
+pub fn make_noise(which: usize, noise: &mut [u8; 4096]) {
+    let page = record::encode(false, b"a", b"2");
+    trying::make_noise(which, &page, noise);
 }

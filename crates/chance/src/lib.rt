@@ -1,5 +1,6 @@
 // Chance: random pages, chips of four blocks and work areas for them.
-ghost use Prim.Native.Nat.{_<_};
+ghost use Prim.Native.Nat.{_+_, _*_, _≤_, _<_};
+ghost use lib.ListN.{length};
 
 // ---- random numbers
 
@@ -82,15 +83,12 @@ fn make_page(what: u64, x: &mut u64) -> [u8; 256] {
 
 // ---- chips
 
-// Page p of the chip is this one.
-fn lay(chip: &mut [u8; 16384], p: usize, page: &[u8; 256])
-    requires { ⌜ p < 64 ⌝ }
+// Page p of the chip is one of that kind.
+fn lay(chip: &mut [u8], p: usize, what: u64, x: &mut u64)
+    requires { ⌜ 256 * p + 256 ≤ length (now chip) ⌝ }
 {
-    let mut i = 0;
-    while i < 256 {
-        chip[256 * p + i] = page[i];
-        i += 1;
-    }
+    let page = make_page(what, x);
+    bytes::copy(&page, &mut chip[256 * p..256 * p + 256]);
 }
 
 // What stands in a place: most often a record, or blank.
@@ -168,8 +166,7 @@ pub fn make_chip(chip: &mut [u8; 16384], kind: usize, x: &mut u64) {
     let stray = (roll(x) % 256) as usize;
     let mut p = 0;
     while p < 64 {
-        let page = make_page(choose(kind, h, m, stray, p, x), x);
-        lay(chip, p, &page);
+        lay(chip, p, choose(kind, h, m, stray, p, x), x);
         p += 1;
     }
 }

@@ -7,14 +7,14 @@ use mathlib.Core.Bool.{Bool, true, false, not, _&&_}
 use Prim.Native.Nat.{ℕ, _+_, _-_, _*_, _/_, _≤_, _<_}
 use native.Mathlib.Omega.{arith}
 use lib.Dec.{leb}
-use lib.ListN.{length, take, drop, getD, length-drop}
+use lib.ListN.{length, take, drop, set, getD, length-drop}
 use lib.Seq.{take-all}
 use borrow.Rule.Slice.PartMut.{midOf, putMid}
 use Rattle.chip.specs.Play.{Op, erases, writes, Did}
 use Rattle.chip.proofs.Plays.{did-none, did-more, did-length}
 use Rattle.record.specs.Record.{Rec, recordOf}
 use Rattle.log.specs.Map.{Map, lookup, alter}
-use Rattle.log.specs.Ring.{chipOf, head, Ring, mapOf, room, Ready}
+use Rattle.log.specs.Ring.{chipOf, head, Ring, mapOf, room, mostBlocks, Ready}
 use Rattle.log.specs.Call.{resting, Trace, After}
 use Rattle.log.specs.Answers.{missing, printed, refuse, lent, keyed, refused, done, putAnswer, deleteAnswer}
 use Rattle.log.specs.Answers.{Answer as Says}
@@ -23,14 +23,14 @@ use Rattle.log.proofs.CallLaws.{call-map}
 use Rattle.log.proofs.CallCost.{Rest, call-short}
 use Rattle.lent.specs.Area.{blocksOf, Checked, mapIn, mark, lentOf, Kept, Store}
 use Rattle.lent.specs.Tested.{lentNumber, keyNumber, due, Tested}
-use Rattle.append.specs.Steps.{denialIn, Alters}
-use Rattle.change.specs.Steps.{putNumber, Runs}
+use Rattle.append.specs.Steps.{ChangeWithin, ChangeKept, denialIn, Alters}
+use Rattle.change.specs.Steps.{putNumber, Words, Settles, Runs}
 use Rattle.change.specs.Changed.{Came, Changes, Ended}
 use Rattle.lent.specs.declared.Answer.{Answer}
 use Rattle.lent.specs.declared.Answer.the-variants.{Done, Refused}
 use Rattle.append.specs.declared.Change.{Change}
 use Rattle.append.specs.declared.Change.the-variants.{Made, Denied, Lost, Broken}
-use Rattle.lent.proofs.Area.{lent-same, lent-before, downed, downed-0, downed-1, downed-2, downed-3, downed-16, back-long, back-index}
+use Rattle.lent.proofs.Area.{marked, lent-same, lent-before, downed, downed-0, downed-1, downed-2, downed-3, downed-16, back-long, back-index}
 use Rattle.lent.proofs.Numbers.{lent-due, keyed-only, refuse-due, due-refused}
 use Rattle.change.proofs.Numbers.{keyed-due}
 use Rattle.lent.proofs.Held.{map-rows}
@@ -222,6 +222,41 @@ module _ (c w : List ℕ) (ok : Checked c w) (note : Bool) (key value noise : Li
     pub run-broken : Alters (blocksOf c) (getD w 1 0) (getD w 2 0) (getD w 3 0) note key value noise c f (midOf 16 k w) c′ f′ ix′ Broken
         → (w′ : List ℕ) → Runs note key value noise c f w c′ f′ w′ (Refused 8)
     run-broken a w′ = record { did = wider (a .did); refused = λ u v. absurd (v refl); right = λ kept lit on. absurd (a .right lit (ready-of kept lit on)) }
+
+    -- whichever it was
+    pub run-settled : (ch : Change) → Alters (blocksOf c) (getD w 1 0) (getD w 2 0) (getD w 3 0) note key value noise c f (midOf 16 k w) c′ f′ ix′ ch
+        → ChangeWithin (blocksOf c) (getD w 3 0) ch → ChangeKept c f (midOf 16 k w) c′ f′ ix′ ch → getD w 3 0 + 1 ≤ length ix′
+        → (w′ : List ℕ) (r : Answer) → Settles (putMid 16 k w ix′) w′ ch r → Runs note key value noise c f w c′ f′ w′ r
+    run-settled (Made h y n) a v u m w′ r s =
+        subst (Runs note key value noise c f w c′ f′ w′) (sym (s .says .0)) (run-made h y n h y n a refl refl refl (omega (arith, v .2)) w′ (s .says .1))
+    run-settled (Denied n) a v u m w′ r s =
+        subst (Runs note key value noise c f w c′ f′ w′) (sym (s .says .0)) (run-denied n a (u .says .0) (u .says .1) (u .says .2) w′ (s .says .1))
+    run-settled Lost a v u m w′ r s =
+        subst (Runs note key value noise c f w c′ f′ w′) (sym (s .says .0))
+        (run-lost a w′ (ap (λ (l : List ℕ). getD l 0 0) (s .says .1) ∙ marked (putMid 16 k w ix′) 2 (back-long w ix′ k long)))
+    run-settled Broken a v u m w′ r s = subst (Runs note key value noise c f w c′ f′ w′) (sym (s .says .0)) (run-broken a w′)
+
+-- what `settle` leaves, by what the change was
+pub settles-made : (v w′ : List ℕ) (ch : Change) (h y n h₂ y₂ n₂ : ℕ) → ch ≡ Made h y n → w′ ≡ downed v h₂ y₂ n₂ → h₂ ≡ h → y₂ ≡ y → n₂ ≡ n → Settles v w′ ch (Done 0)
+settles-made v w′ ch h y n h₂ y₂ n₂ e q eh ey en =
+    subst (λ (x : Change). Settles v w′ x (Done 0)) (sym e)
+    (record { says = (refl, q ∙ ap (λ (i : ℕ). downed v i y₂ n₂) eh ∙ ap (λ (i : ℕ). downed v h i n₂) ey ∙ ap (downed v h y) en) })
+
+pub settles-denied : (v : List ℕ) (ch : Change) (k : ℕ) → ch ≡ Denied k → Settles v v ch (Refused k)
+settles-denied v ch k e = subst (λ (x : Change). Settles v v x (Refused k)) (sym e) (record { says = (refl, refl) })
+
+pub settles-lost : (v : List ℕ) (ch : Change) → ch ≡ Lost → Settles v (set v 0 2) ch (Refused 7)
+settles-lost v ch e = subst (λ (x : Change). Settles v (set v 0 2) x (Refused 7)) (sym e) (record { says = (refl, refl) })
+
+pub settles-broken : (v : List ℕ) (ch : Change) → ch ≡ Broken → Settles v v ch (Refused 8)
+settles-broken v ch e = subst (λ (x : Change). Settles v v x (Refused 8)) (sym e) (record { says = (refl, refl) })
+
+-- the numbers of a change are words
+pub words-of : (B n : ℕ) (ch : Change) → B ≤ mostBlocks → n ≤ room B → ChangeWithin B n ch → Words ch
+words-of B n (Made h x m) b l v = (omega (arith, v .0), omega (arith, v .1), omega (arith, v .2))
+words-of B n (Denied k) b l v = tt
+words-of B n Lost b l v = tt
+words-of B n Broken b l v = tt
 
 -- the words by other names
 pub alters-at : (B h h₂ y y₂ n n₂ : ℕ) (note : Bool) (key value noise c : List ℕ) (f : ℕ) (ix c′ : List ℕ) (f′ : ℕ) (ix′ : List ℕ) (r : Change) → h ≡ h₂ → y ≡ y₂ → n ≡ n₂

@@ -4,7 +4,7 @@ use mathlib.Core.List.{List}
 use mathlib.Core.Path.{_≡_}
 use Prim.Native.Nat.{ℕ, _<_, _*_}
 use lib.Dec.{leb}
-use lib.ListN.{length}
+use lib.ListN.{length, set}
 use Rattle.chip.specs.Play.{Did}
 use Rattle.record.specs.Record.{recordOf}
 use Rattle.log.specs.Answers.{done, printed}
@@ -12,12 +12,32 @@ use Rattle.log.specs.Map.{alter}
 use Rattle.lent.specs.Area.{blocksOf, mapIn, mark, Kept}
 use Rattle.lent.specs.Tested.{number, keyNumber, due}
 use Rattle.lent.specs.declared.Answer.{Answer}
+use Rattle.lent.specs.declared.Answer.the-variants.{Done, Refused}
 use Rattle.change.specs.Changed.{RefusedKept, Changes}
 use Rattle.append.specs.Steps.{denialIn}
+use Rattle.append.specs.declared.Change.{Change}
+use Rattle.append.specs.declared.Change.the-variants.{Made, Denied, Lost, Broken}
 
 -- the refusals 1 and 2 of what is to be put, as a number: the key's length, its bytes, the value's length
 abbrev pub putNumber : List ℕ → List ℕ → ℕ
 putNumber key value = keyNumber key (number 1 (not (printed key)) (number 2 (leb 97 (length value)) 0))
+
+-- the numbers of a change that was made are words of the area
+abbrev pub Words : Change → Type 0
+Words (Made h x n) = (h < 4294967296) × (x < 4294967296) × (n < 4294967296)
+Words (Denied k) = Unit {0}
+Words Lost = Unit {0}
+Words Broken = Unit {0}
+
+-- what is left in the area, and answered, after a change
+abbrev pub SettlesBy : List ℕ → List ℕ → Change → Answer → Type 0
+SettlesBy w w′ (Made h x n) r = (r ≡ Done 0) × (w′ ≡ set (set (set w 1 h) 2 x) 3 n)
+SettlesBy w w′ (Denied k) r = (r ≡ Refused k) × (w′ ≡ w)
+SettlesBy w w′ Lost r = (r ≡ Refused 7) × (w′ ≡ set w 0 2)
+SettlesBy w w′ Broken r = (r ≡ Refused 8) × (w′ ≡ w)
+
+pub record Settles (w w′ : List ℕ) (change : Change) (r : Answer) : Type 0 where
+  pub says : SettlesBy w w′ change r
 
 -- ---- THE BODY OF THE CALL, once all is tested
 pub record Runs (note : Bool) (key value noise c : List ℕ) (f : ℕ) (w c′ : List ℕ) (f′ : ℕ) (w′ : List ℕ) (r : Answer) : Type 0 where

@@ -3,12 +3,31 @@
 use append::Change;
 use lent::Answer;
 ghost use mathlib.Core.Path.{_≡_};
-ghost use Prim.Native.Nat.{_<_};
+ghost use Prim.Native.Nat.{_≤_, _<_};
 ghost use lib.ListN.{length};
 ghost use Rattle.lent.specs.Area.{Checked};
 ghost use Rattle.change.specs.Changed.{PutEnds, DeleteEnds};
 ghost use Rattle.append.specs.Steps.{Keyed};
-ghost use Rattle.change.specs.Steps.{putNumber, Runs};
+ghost use Rattle.change.specs.Steps.{putNumber, Words, Settles, Runs};
+
+// The area and the answer after a change: the new numbers are put down where it was made, and the mark where the power went.
+fn settle(work: &mut [u32], change: Change) -> Answer
+    requires { ⌜ (16 ≤ length (now work)) × Words change ⌝ }
+    ensures { λ r. ⌜ Settles (now (work .entry)) (now (work .exit)) change r ⌝ }
+{
+    match change {
+        Change::Made(h, next, n) => {
+            lent::note_down(work, h as u32, next as u32, n as u32);
+            Answer::Done(0)
+        }
+        Change::Denied(k) => Answer::Refused(k),
+        Change::Lost => {
+            work[0] = 2;
+            Answer::Refused(7)
+        }
+        Change::Broken => Answer::Refused(8),
+    }
+}
 
 // The body of put and delete, once all is tested.
 fn run_change(
@@ -27,7 +46,7 @@ fn run_change(
     let h = index::word(work[1]);
     let next = index::word(work[2]);
     let n = index::word(work[3]);
-    match append::make_change(
+    let change = append::make_change(
         chip,
         &mut work[16..],
         b,
@@ -39,18 +58,8 @@ fn run_change(
         value,
         fuse,
         noise,
-    ) {
-        Change::Made(h2, next2, m) => {
-            lent::note_down(work, h2 as u32, next2 as u32, m as u32);
-            Answer::Done(0)
-        }
-        Change::Denied(k) => Answer::Refused(k),
-        Change::Lost => {
-            work[0] = 2;
-            Answer::Refused(7)
-        }
-        Change::Broken => Answer::Refused(8),
-    }
+    );
+    settle(work, change)
 }
 
 // Refusals 1 and 2 of what is to be put: the key can't be printed, the value is too long; 0 if none is due.

@@ -7,10 +7,10 @@ use mathlib.Core.List.{List}
 use Prim.Native.Nat.{ℕ, _+_, _*_, _/_, _%_, _≤_, _<_}
 use native.Mathlib.Decide.{decLt}
 use native.Mathlib.Omega.{arith}
-use lib.ListN.{length, take, drop, replicate, length-replicate, getD-replicate, length-take, List·getD-eq-default}
+use lib.ListN.{length, take, drop, replicate, length-replicate, getD-replicate}
 use lib.Seq.{take-all, getD-take, getD-drop}
 use lib.Bits.{bitOr, bitAnd}
-use Rattle.page.specs.Page.{byte, Bytes, ors, ands}
+use Rattle.page.specs.Page.{byte, ors, ands}
 use Rattle.page.proofs.Cut.{length-each, ands-blank, blank-of}
 use Rattle.chip.specs.Chip.{Power, gone, goes, stays, pageAt, blockAt, blankAt, news, splice, erased, written}
 use Rattle.chip.specs.Play.{Writable}
@@ -20,15 +20,6 @@ use Rattle.chip.proofs.Power.{length-part}
 pub length-page : (c : List ℕ) (p : ℕ) → 256 * p + 256 ≤ length c → length (pageAt c p) ≡ 256
 unfolding pageAt
 length-page c p h = length-part (256 * p) 256 c h
-
--- a page of a chip of bytes is one of bytes
-pub bytes-page : (c : List ℕ) (p : ℕ) → Bytes c → Bytes (pageAt c p)
-unfolding pageAt
-bytes-page c p b i = go (decLt i 256)
-  where
-    go : Dec (i < 256) → byte (take 256 (drop (256 * p) c)) i < 256
-    go (yes l) = rw (getD-take 256 (drop (256 * p) c) i 0 l, getD-drop (256 * p) c i 0) (b (256 * p + i))
-    go (no l) = rw (List·getD-eq-default (take 256 (drop (256 * p) c)) 0 {n = i} (rw (length-take 256 (drop (256 * p) c)) (omega arith))) (omega arith)
 
 -- ---- n whole pages, xs, in the place of as many from page a on
 module _ (c : List ℕ) (a n : ℕ) (xs : List ℕ) (h : 256 * a + 256 * n ≤ length c) (k : length xs ≡ 256 * n) where

@@ -8,7 +8,7 @@ use lib.ListN.{length, take, drop, length-append, length-drop}
 use native.Mathlib.Nat.{zero-add, suc-add}
 use lib.Seq.{take-nil, take-at, drop-at, drop-drop, take-take, length-take-le, take-append-le, drop-append-le}
 use borrow.Rule.Slice.PartMut.{putMid, midOf, post-is}
-use Rattle.chip.specs.Chip.{pageAt, splice}
+use Rattle.chip.specs.Chip.{splice}
 
 -- ---- a part that was lent, `&mut c[a..a + k]`, has come back as ys
 module _ (a k : ℕ) (c ys : List ℕ) (h : length ys ≡ k) where
@@ -22,10 +22,6 @@ pub part-out : (a k : ℕ) (c : List ℕ) → midOf a (a + k - a) c ≡ take k (
 part-out a k c =
     let e : a + k - a ≡ k = omega arith in
     ap (λ (n : ℕ). take n (drop a c)) e
-
--- page q is page p, however the code says which
-pub same-page : (c l : List ℕ) (q p : ℕ) → l ≡ pageAt c q → q ≡ p → l ≡ pageAt c p
-same-page c l q p e n = e ∙ ap (pageAt c) n
 
 -- ---- the parts of the result
 module _ (c : List ℕ) (a : ℕ) (xs : List ℕ) (h : a + length xs ≤ length c) where

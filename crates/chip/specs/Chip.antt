@@ -14,6 +14,10 @@ pageAt c p = take 256 (drop (256 * p) c)
 unfoldable pub blockAt : List ℕ → ℕ → List ℕ
 blockAt c b = take 4096 (drop (4096 * b) c)
 
+-- the beginning of a page: its first 32 bytes, in which header and key stand (docs/FORMAT.md)
+unfoldable pub beginning : List ℕ → List ℕ
+beginning pg = take 32 pg
+
 -- page p is blank
 unfoldable pub blankAt : List ℕ → ℕ → Bool
 blankAt c p = blank (pageAt c p)

@@ -1,23 +1,47 @@
-// The chip (document 01, section 1) and its fault script (docs/FAULTS.md): erase a block, write a page, whole or cut short.
-// This is the only crate that changes the chip's bytes. What an operation leaves is said in specs/Chip.antt, what a run of them did in specs/Play.antt.
+// The chip (document 01, section 1) and its fault script (docs/FAULTS.md): read, erase a block, write a page, whole or cut short.
+// This is the only crate that looks at the chip's bytes, by `read`, or changes them, by `erase` and `write`: on a float a driver stands in their place
+// (docs/PORT.md). What an operation leaves is said in specs/Chip.antt, what a run of them did in specs/Play.antt.
 // `fuse` is the number of the fault script: 0, the power is gone; 1, it goes during the next operation; more, it stays on for that one.
 use page::Look;
 ghost use mathlib.Core.Path.{_≡_};
 ghost use mathlib.Core.Bool.{true};
 ghost use Prim.Native.Nat.{_+_, _-_, _*_, _≤_};
-ghost use lib.ListN.{length, replicate};
+ghost use lib.ListN.{length, take, drop, replicate};
 ghost use Rattle.page.specs.Page.{each};
 ghost use Rattle.page.specs.Look.{lookOf};
-ghost use Rattle.chip.specs.Chip.{pageAt, blankAt, turned, power, erased, written};
+ghost use Rattle.chip.specs.Chip.{pageAt, beginning, blankAt, turned, power, erased, written};
+
+// The bytes of the chip from byte `at` on, as many as `to` has.
+pub fn read(chip: &[u8], at: usize, to: &mut [u8])
+    requires { ⌜ at + length (now to) ≤ length (now chip) ⌝ }
+    ensures { λ _. ⌜ now (to .exit) ≡ take (length (now (to .entry))) (drop at (now (chip .entry))) ⌝ }
+{
+    let n = to.len();
+    let mut i = 0;
+    while i < n {
+        to[i] = chip[at + i];
+        i += 1;
+    }
+}
 
 // The bytes of page p.
-fn page_at(chip: &[u8], p: usize) -> &[u8]
+pub fn page_at(chip: &[u8], p: usize) -> [u8; 256]
     requires { ⌜ 256 * p + 256 ≤ length (now chip) ⌝ }
-    ensures is { λ r. ⌜ now r ≡ pageAt (now (chip .entry)) p ⌝ }
-    ensures long { λ r. ⌜ length (now r) ≡ 256 ⌝ }
+    ensures { λ r. ⌜ r ≡ pageAt (now (chip .entry)) p ⌝ }
 {
-    let from = 256 * p;
-    &chip[from..from + 256]
+    let mut page = [0u8; 256];
+    read(chip, 256 * p, &mut page);
+    page
+}
+
+// The beginning of page p, its first 32 bytes: a search needs no more.
+pub fn beginning_at(chip: &[u8], p: usize) -> [u8; 32]
+    requires { ⌜ 256 * p + 256 ≤ length (now chip) ⌝ }
+    ensures { λ r. ⌜ r ≡ beginning (pageAt (now (chip .entry)) p) ⌝ }
+{
+    let mut bytes = [0u8; 32];
+    read(chip, 256 * p, &mut bytes);
+    bytes
 }
 
 // Whether page p is blank, so that it may be written.
@@ -25,7 +49,8 @@ pub fn blank_at(chip: &[u8], p: usize) -> bool
     requires { ⌜ 256 * p + 256 ≤ length (now chip) ⌝ }
     ensures { λ r. ⌜ r ≡ blankAt (now (chip .entry)) p ⌝ }
 {
-    page::is_blank(page_at(chip, p))
+    let page = page_at(chip, p);
+    page::is_blank(&page)
 }
 
 // What page p is: blank, sound or spoilt.
@@ -33,7 +58,8 @@ pub fn look_at(chip: &[u8], p: usize) -> Look
     requires { ⌜ 256 * p + 256 ≤ length (now chip) ⌝ }
     ensures { λ r. ⌜ r ≡ lookOf (pageAt (now (chip .entry)) p) ⌝ }
 {
-    page::look_at(page_at(chip, p))
+    let page = page_at(chip, p);
+    page::look_at(&page)
 }
 
 // All bits become 1.

@@ -1,5 +1,5 @@
 -- A place of the oldest block is passed over, or its live value copied; and one place after another. Assumes nothing.
-use mathlib.Core.Path.{_≡_, sym, ap, _∙_, subst}
+use mathlib.Core.Path.{_≡_, refl, sym, ap, _∙_, subst}
 use mathlib.Core.List.{List, [], _∷_, _++_}
 use mathlib.Core.Option.{some}
 use mathlib.Core.Bool.{true, false, not, true≢false}
@@ -11,8 +11,8 @@ use Rattle.page.specs.Page.{Bytes}
 use Rattle.chip.specs.Chip.{power, pageAt, blankAt, written}
 use Rattle.chip.specs.Play.{Op, write, Writable, Did}
 use Rattle.chip.proofs.Power.{write-stayed, write-went}
-use Rattle.chip.proofs.Plays.{did-none, did-write, did-meant, did-more, did-then}
-use Rattle.record.specs.Record.{recAt}
+use Rattle.chip.proofs.Plays.{did-none, did-write, did-more, did-then}
+use Rattle.record.specs.Record.{Rec, recOf, recAt}
 use Rattle.log.specs.Log.{pageOf, oldest, run, pages}
 use Rattle.log.specs.Ring.{Chip, chipOf, spare}
 use Rattle.log.specs.Call.{copying, Wrote, CutWrote, Leads, Cut}
@@ -28,7 +28,6 @@ use Rattle.clean.specs.declared.Live.the-variants.{Yes, No}
 use Rattle.clean.specs.declared.Turn.{Turn}
 use Rattle.clean.specs.declared.Turn.the-variants.{On, Dark, Dirty}
 use Rattle.clean.specs.Steps.{Midway, midway, Judges, TurnsBy, Turns, Carries}
-use Rattle.clean.proofs.Runs.{copy-writable}
 
 -- place i of the oldest block lies on its page i
 pub oldest-page : (B h i : ℕ) → i < 15 → pageOf B (oldest B (h + B) + i) ≡ 16 * ((h + 2) % B) + i
@@ -40,9 +39,9 @@ pub fresh-page : (B h k : ℕ) → 4 ≤ B → k < 15 → pageOf B (fresh B h + 
 fresh-page B h k big l = ap (λ (x : ℕ). pageOf B (x + k)) {x = fresh B h} {y = 15 * (h + B + 1)} (omega arith) ∙ spare-page B big h k l
 
 -- ---- A COPY
-module _ (B : ℕ) (big : 4 ≤ B) (noise c ix : List ℕ) (f n h k q j p : ℕ) (e : p ≡ 16 * spare B h + k) where
+module _ (B : ℕ) (big : 4 ≤ B) (pg noise c ix : List ℕ) (f n h k j p : ℕ) (e : p ≡ 16 * spare B h + k) where
   -- the spare would be full: it never is, since there is a copy for a place at most
-  pub carry-full : 15 ≤ k → Carries B n h k q j noise c f ix c f ix Dirty
+  pub carry-full : 15 ≤ k → Carries B n h k j pg noise c f ix c f ix Dirty
   carry-full l =
       record { did = did-more (omega arith) (omega arith) (did-none c f); right = λ c₀ i lit b s m a. omega (arith, m .opening .fewer) }
 
@@ -51,7 +50,7 @@ module _ (B : ℕ) (big : 4 ≤ B) (noise c ix : List ℕ) (f n h k q j p : ℕ)
     here = e ∙ sym (fresh-page B h k big b)
 
     -- its page would not be blank
-    pub carry-dirty : blankAt c p ≡ false → Carries B n h k q j noise c f ix c f ix Dirty
+    pub carry-dirty : blankAt c p ≡ false → Carries B n h k j pg noise c f ix c f ix Dirty
     carry-dirty d =
         record {
           did = did-more (omega arith) (omega arith) (did-none c f);
@@ -62,35 +61,40 @@ module _ (B : ℕ) (big : 4 ≤ B) (noise c ix : List ℕ) (f n h k q j p : ℕ)
               ∙ copy-blank B big h c₀ (chipOf c) (oldest B (h + B) + i) (fresh B h + k) (omega arith) (m .opening));
         }
 
-    module _ (c′ new : List ℕ) (f′ : ℕ) (i : 256 * p + 256 ≤ length c) (z : blankAt c p ≡ true) (g : f′ ≡ f - 1) (y : 256 * q + 256 ≤ length c) (s : Bytes c)
-        (u : new ≡ pageAt c q) (w : c′ ≡ written (power f) noise p new c) where
-      fit : Writable p (pageAt c q) c
-      fit = copy-writable noise c c′ f f′ p i z g q y s
+    module _ (c′ : List ℕ) (f′ : ℕ) (i : 256 * p + 256 ≤ length c) (z : blankAt c p ≡ true) (g : f′ ≡ f - 1) (y : length pg ≡ 256) (s : Bytes pg)
+        (w : c′ ≡ written (power f) noise p pg c) where
+      fit : Writable p pg c
+      fit = record { inside = i; blank = z; size = y; bytes = s }
 
       did : Did 0 1 noise c f c′ f′
-      did = did-meant p (pageAt c q) new c c′ f f′ fit u w g
+      did = did-write p pg c c′ f f′ fit w g
+
+      -- what the page says that was read
+      same : (x : ℕ) (r : Rec) → pg ≡ pageAt c x → recAt c x ≡ some r → recOf pg ≡ some r
+      unfolding recAt
+      same x r u says = ap recOf u ∙ says
 
       -- the power went
-      pub carry-dark : f′ ≡ 0 → Carries B n h k q j noise c f ix c′ f′ ix Dark
-      unfolding did did-meant did-write
+      pub carry-dark : f′ ≡ 0 → Carries B n h k j pg noise c f ix c′ f′ ix Dark
+      unfolding did did-write
       carry-dark gone =
           record {
             did = did;
             right = λ c₀ x lit l at m a.
                 let t : ℕ = oldest B (h + B) + x in
                 let v : CutWrote p (some (a .rec)) (chipOf c) (chipOf c′) =
-                subst (λ (d : List ℕ). CutWrote p (some (a .rec)) (chipOf c) (chipOf d)) (sym (write-went noise c c′ f f′ g p (pageAt c q) new u w lit gone))
-                (cut-copy noise p c q (a .rec) (ap (recAt c) at ∙ a .says) fit) in (
+                subst (λ (d : List ℕ). CutWrote p (some (a .rec)) (chipOf c) (chipOf d)) (sym (write-went noise c c′ f f′ g p pg pg refl w lit gone))
+                (cut-copy noise p c pg (a .rec) (same (pageOf B t) (a .rec) at (a .says)) fit) in (
                   gone,
-                  subst (λ (d : ℕ). Cut B (midway B c h c₀ x k) (chipOf c′) (write d (pageAt c q) ∷ [])) (sym here)
-                      (cut-copied B h c₀ (chipOf c) t (fresh B h + k) (omega arith) (chipOf c′) (a .rec) (a .row) (pageAt c q) (a .says) (a .live) (a .stands)
+                  subst (λ (d : ℕ). Cut B (midway B c h c₀ x k) (chipOf c′) (write d pg ∷ [])) (sym here)
+                      (cut-copied B h c₀ (chipOf c) t (fresh B h + k) (omega arith) (chipOf c′) (a .rec) (a .row) pg (a .says) (a .live) (a .stands)
                       (subst (λ (d : ℕ). CutWrote d (some (a .rec)) (chipOf c) (chipOf c′)) here v)),
                 );
           }
 
       -- it stayed: the entry is that of the copy
-      pub carry-on : 0 < f′ → j < n → (ix′ : List ℕ) → ix′ ≡ set ix j p → Carries B n h k q j noise c f ix c′ f′ ix′ (On (k + 1))
-      unfolding did did-meant did-write
+      pub carry-on : 0 < f′ → j < n → (ix′ : List ℕ) → ix′ ≡ set ix j p → Carries B n h k j pg noise c f ix c′ f′ ix′ (On (k + 1))
+      unfolding did did-write
       carry-on on low ix′ put =
           record {
             did = did;
@@ -98,8 +102,8 @@ module _ (B : ℕ) (big : 4 ≤ B) (noise c ix : List ℕ) (f n h k q j p : ℕ)
                 let t : ℕ = oldest B (h + B) + x in
                 let r : ℕ = fresh B h + k in
                 let o : Wrote p (some (a .rec)) (chipOf c) (chipOf c′) =
-                subst (λ (d : List ℕ). Wrote p (some (a .rec)) (chipOf c) (chipOf d)) (sym (write-stayed noise c c′ f f′ g p (pageAt c q) new u w on))
-                (wrote-copy noise p c q (a .rec) (ap (recAt c) at ∙ a .says) fit) in
+                subst (λ (d : List ℕ). Wrote p (some (a .rec)) (chipOf c) (chipOf d)) (sym (write-stayed noise c c′ f f′ g p pg pg refl w on))
+                (wrote-copy noise p c pg (a .rec) (same (pageOf B t) (a .rec) at (a .says)) fit) in
                 let v : Wrote (pageOf B r) (some (a .rec)) (chipOf c) (chipOf c′) = subst (λ (d : ℕ). Wrote d (some (a .rec)) (chipOf c) (chipOf c′)) here o in
                 let t1 : suc t ≡ oldest B (h + B) + (x + 1) = omega arith in
                 let r1 : suc r ≡ fresh B h + (k + 1) = omega arith in
@@ -114,13 +118,13 @@ module _ (B : ℕ) (big : 4 ≤ B) (noise c ix : List ℕ) (f n h k q j p : ℕ)
                       (live-what B big (chipOf c) (chipOf c′) h c₀ t r (a .rec) (a .row) (omega arith) (omega arith) (a .says) (a .live) (a .stands) (m .opening))
                       (written-at B r (a .rec) (chipOf c) (chipOf c′) v) none-there j (a .inside) (a .entry));
                 } in
-                let run : Leads B (copying h c₀ (chipOf c) t r) (copying h c₀ (chipOf c′) (suc t) (suc r)) (write (pageOf B r) (pageAt c q) ∷ []) =
-                leads-copy B h c₀ (chipOf c) t r (omega arith) (chipOf c′) (a .rec) (a .row) (pageAt c q) (a .says) (a .live) (a .stands) v in (
+                let run : Leads B (copying h c₀ (chipOf c) t r) (copying h c₀ (chipOf c′) (suc t) (suc r)) (write (pageOf B r) pg ∷ []) =
+                leads-copy B h c₀ (chipOf c) t r (omega arith) (chipOf c′) (a .rec) (a .row) pg (a .says) (a .live) (a .stands) v in (
                   on,
                   subst (λ (d : ℕ). Midway B c′ ix′ n h c₀ d (fresh B h + (k + 1))) t1 (subst (λ (d : ℕ). Midway B c′ ix′ n h c₀ (suc t) d) r1 mid),
-                  subst (λ (d : ℕ). Leads B (midway B c h c₀ x k) (midway B c′ h c₀ (x + 1) (k + 1)) (write d (pageAt c q) ∷ [])) (sym here)
-                      (subst (λ (d : ℕ). Leads B (copying h c₀ (chipOf c) t r) (copying h c₀ (chipOf c′) d (fresh B h + (k + 1))) (write (pageOf B r) (pageAt c q) ∷ [])) t1
-                      (subst (λ (d : ℕ). Leads B (copying h c₀ (chipOf c) t r) (copying h c₀ (chipOf c′) (suc t) d) (write (pageOf B r) (pageAt c q) ∷ [])) r1 run)),
+                  subst (λ (d : ℕ). Leads B (midway B c h c₀ x k) (midway B c′ h c₀ (x + 1) (k + 1)) (write d pg ∷ [])) (sym here)
+                      (subst (λ (d : ℕ). Leads B (copying h c₀ (chipOf c) t r) (copying h c₀ (chipOf c′) d (fresh B h + (k + 1))) (write (pageOf B r) pg ∷ [])) t1
+                      (subst (λ (d : ℕ). Leads B (copying h c₀ (chipOf c) t r) (copying h c₀ (chipOf c′) (suc t) d) (write (pageOf B r) pg ∷ [])) r1 run)),
                 );
           }
 
@@ -148,11 +152,12 @@ module _ (B : ℕ) (big : 4 ≤ B) (noise c ix : List ℕ) (size : length c ≡ 
       }
 
   -- it has one, which was copied or not
-  pub look-carried : (j : ℕ) (c′ ix′ : List ℕ) (f′ : ℕ) (r : Turn) → Judges c ix n q (Yes j) → Carries B n h k q j noise c f ix c′ f′ ix′ r → Turns B n h i 1 k noise c f ix c′ f′ ix′ r
-  look-carried j c′ ix′ f′ r d a =
+  pub look-carried : (j : ℕ) (pg c′ ix′ : List ℕ) (f′ : ℕ) (r : Turn) → pg ≡ pageAt c q → Judges c ix n q (Yes j) → Carries B n h k j pg noise c f ix c′ f′ ix′ r
+      → Turns B n h i 1 k noise c f ix c′ f′ ix′ r
+  look-carried j pg c′ ix′ f′ r u d a =
       record {
         did = a .did;
-        right = λ c₀ lit m. a .right c₀ i lit l at m (d .one B h (oldest B (h + B) + i) (fresh B h + k) c₀ big size (omega arith) (omega arith) at m);
+        right = λ c₀ lit m. a .right c₀ i lit l (u ∙ ap (pageAt c) at) m (d .one B h (oldest B (h + B) + i) (fresh B h + k) c₀ big size (omega arith) (omega arith) at m);
       }
 
 -- ---- ONE AFTER ANOTHER

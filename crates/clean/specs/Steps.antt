@@ -7,6 +7,7 @@ use mathlib.Core.List.{List}
 use mathlib.Core.Option.{some}
 use Prim.Native.Nat.{ℕ, _+_, _*_, _≤_, _<_}
 use lib.ListN.{length, take}
+use Rattle.chip.specs.Chip.{pageAt}
 use Rattle.chip.specs.Play.{Op, Did}
 use Rattle.record.specs.Record.{Rec, recAt}
 use Rattle.log.specs.Map.{lookup}
@@ -65,8 +66,8 @@ pub record Turns (B n h i j k : ℕ) (noise c : List ℕ) (f : ℕ) (ix c′ : L
   pub did : Did 0 j noise c f c′ f′
   pub right : (c₀ : Chip) → 0 < f → Midway B c ix n h c₀ (oldest B (h + B) + i) (fresh B h + k) → TurnsBy B n h c₀ i j k c c′ f′ ix′ (did .ops) r
 
--- the page q of a live value, whose entry is j, was copied
-pub record Carries (B n h k q j : ℕ) (noise c : List ℕ) (f : ℕ) (ix c′ : List ℕ) (f′ : ℕ) (ix′ : List ℕ) (r : Turn) : Type 0 where
+-- the page pg of a live value, whose entry is j, was copied
+pub record Carries (B n h k j : ℕ) (pg noise c : List ℕ) (f : ℕ) (ix c′ : List ℕ) (f′ : ℕ) (ix′ : List ℕ) (r : Turn) : Type 0 where
   pub did : Did 0 1 noise c f c′ f′
-  pub right : (c₀ : Chip) (i : ℕ) → 0 < f → i < 15 → q ≡ pageOf B (oldest B (h + B) + i) → Midway B c ix n h c₀ (oldest B (h + B) + i) (fresh B h + k)
+  pub right : (c₀ : Chip) (i : ℕ) → 0 < f → i < 15 → pg ≡ pageAt c (pageOf B (oldest B (h + B) + i)) → Midway B c ix n h c₀ (oldest B (h + B) + i) (fresh B h + k)
       → LiveAt B c h (oldest B (h + B) + i) (fresh B h + k) j → TurnsBy B n h c₀ i 1 k c c′ f′ ix′ (did .ops) r

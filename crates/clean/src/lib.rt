@@ -12,47 +12,32 @@ ghost use Rattle.record.specs.declared.Kind.the-variants.{Value};
 ghost use Rattle.clean.specs.Ends.{Sane, LiveWithin, Few};
 ghost use Rattle.clean.specs.Steps.{Judges, Carries, Turns};
 
-// The bytes of page q.
-fn copy_of(chip: &[u8], q: usize) -> [u8; 256]
-    requires { ⌜ 256 * q + 256 ≤ length (now chip) ⌝ }
-    ensures { λ r. ⌜ r ≡ pageAt (now (chip .entry)) q ⌝ }
-{
-    let a = 256 * q;
-    let mut page = [0u8; 256];
-    let mut i = 0;
-    while i < 256 {
-        page[i] = chip[a + i];
-        i += 1;
-    }
-    page
-}
-
-// Whether page q holds a live value: the newest record of its key, by the index. If so, where its entry stands.
+// Whether page q, which was read, holds a live value: the newest record of its key, by the index. If so, where its entry stands.
 pub enum Live {
     Yes(usize),
     No,
 }
 
-fn is_live(chip: &[u8], index: &[u32], n: usize, q: usize) -> Live
-    requires { ⌜ (256 * q + 256 ≤ length (now chip)) × (n ≤ length (now index)) ⌝ }
+fn is_live(chip: &[u8], index: &[u32], n: usize, q: usize, page: &[u8]) -> Live
+    requires { ⌜ (n ≤ length (now index)) × (length (now page) ≡ 256) × (now page ≡ pageAt (now chip) q) ⌝ }
     ensures within { λ r. ⌜ LiveWithin n r ⌝ }
     ensures right { λ r. ⌜ Judges (now (chip .entry)) (now (index .entry)) n q r ⌝ }
 {
-    match record::kind_at(chip, q) {
-        Kind::Value => entry_of(chip, index, n, q),
+    match record::kind_of(page) {
+        Kind::Value => entry_of(chip, index, n, q, page),
         Kind::Note => Live::No,
         Kind::Nothing => Live::No,
     }
 }
 
 // The same of a page that holds a value.
-fn entry_of(chip: &[u8], index: &[u32], n: usize, q: usize) -> Live
-    requires { ⌜ (256 * q + 256 ≤ length (now chip)) × (n ≤ length (now index)) ⌝ }
+fn entry_of(chip: &[u8], index: &[u32], n: usize, q: usize, page: &[u8]) -> Live
+    requires { ⌜ (n ≤ length (now index)) × (length (now page) ≡ 256) × (now page ≡ pageAt (now chip) q) ⌝ }
     requires { ⌜ kindOf (recAt (now chip) q) ≡ Value ⌝ }
     ensures within { λ r. ⌜ LiveWithin n r ⌝ }
     ensures right { λ r. ⌜ Judges (now (chip .entry)) (now (index .entry)) n q r ⌝ }
 {
-    match index::find(chip, index, n, record::key_at(chip, q)) {
+    match index::find(chip, index, n, record::key_on(page)) {
         Found::At(j) => {
             if index::word(index[j]) == q {
                 return Live::Yes(j);
@@ -70,7 +55,7 @@ pub enum Turn {
     Dirty,
 }
 
-// The page q of a live value, whose entry is j, is copied to place k of the spare.
+// The page of a live value, whose entry is j, is copied to place k of the spare.
 fn carry(
     chip: &mut [u8],
     index: &mut [u32],
@@ -78,14 +63,14 @@ fn carry(
     b: usize,
     h: usize,
     k: usize,
-    q: usize,
     j: usize,
+    page: &[u8],
     fuse: &mut u64,
     noise: &[u8],
 ) -> Turn
     requires { ⌜ Sane b (now chip) (now index) (now noise) n h ⌝ }
-    requires { ⌜ (256 * q + 256 ≤ length (now chip)) × (j < n) ⌝ }
-    ensures right { λ r. ⌜ Carries b n h k q j (now (noise .entry)) (now (chip .entry)) (now (fuse .entry)) (now (index .entry)) (now (chip .exit)) (now (fuse .exit)) (now (index .exit)) r ⌝ }
+    requires { ⌜ (length (now page) ≡ 256) × (j < n) ⌝ }
+    ensures right { λ r. ⌜ Carries b n h k j (now (page .entry)) (now (noise .entry)) (now (chip .entry)) (now (fuse .entry)) (now (index .entry)) (now (chip .exit)) (now (fuse .exit)) (now (index .exit)) r ⌝ }
     ensures few { λ r. ⌜ Few r ⌝ }
 {
     if log::PLACES <= k {
@@ -95,8 +80,7 @@ fn carry(
     if !chip::blank_at(chip, p) {
         return Turn::Dirty;
     }
-    let page = copy_of(chip, q);
-    chip::write(chip, p, &page, fuse, noise);
+    chip::write(chip, p, page, fuse, noise);
     if *fuse == 0 {
         return Turn::Dark;
     }
@@ -104,7 +88,7 @@ fn carry(
     Turn::On(k + 1)
 }
 
-// Place i of the oldest block is looked at.
+// Place i of the oldest block is looked at: its page is read once, to be judged and to be copied.
 fn look_at(
     chip: &mut [u8],
     index: &mut [u32],
@@ -122,8 +106,9 @@ fn look_at(
     ensures few { λ r. ⌜ Few r ⌝ }
 {
     let q = 16 * log::block_after(h, 2, b) + i;
-    match is_live(chip, index, n, q) {
-        Live::Yes(j) => carry(chip, index, n, b, h, k, q, j, fuse, noise),
+    let page = chip::page_at(chip, q);
+    match is_live(chip, index, n, q, &page) {
+        Live::Yes(j) => carry(chip, index, n, b, h, k, j, &page, fuse, noise),
         Live::No => Turn::On(k),
     }
 }

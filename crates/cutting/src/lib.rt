@@ -10,12 +10,15 @@ pub const LONG: u64 = 1000;
 
 // ---- the map
 
-// One of two numbers that are at most this.
-fn pick(first: bool, a: usize, b: usize, most: usize) -> usize
-    requires { ⌜ (a ≤ most) × (b ≤ most) ⌝ }
-    ensures { λ r. ⌜ r ≤ most ⌝ }
+// The line's place if its call is of that key, and else the last one.
+fn later(script: &[u8], at: usize, last: usize, key: &[u8]) -> usize
+    requires { ⌜ (at ≤ length (now script)) × (last ≤ length (now script)) ⌝ }
+    ensures { λ r. ⌜ r ≤ length (now (script .entry)) ⌝ }
 {
-    if first { a } else { b }
+    if check::same(trying::word(trying::line(script, at), 1), key) {
+        return at;
+    }
+    last
 }
 
 // The value that the calls before n leave the key with; no bytes for none.
@@ -25,13 +28,7 @@ fn due_value<'a>(script: &'a [u8], n: usize, key: &[u8]) -> &'a [u8]
     let mut last = script.len();
     let mut at = 0;
     while at < n {
-        let line = trying::line(script, at);
-        last = pick(
-            trying::same(trying::word(line, 1), key),
-            at,
-            last,
-            script.len(),
-        );
+        last = later(script, at, last, key);
         at = trying::next(script, at);
     }
     trying::word(trying::line(script, last), 2)
@@ -44,13 +41,8 @@ fn judge(due: &[u8], refusal: u32, n: usize, buffer: &[u8]) -> usize
     if refusal == 4 {
         return if due.len() == 0 { 0 } else { 99 };
     }
-    if (refusal != 0) | (n == 0) {
-        return 99;
-    }
-    if buffer.len() < n {
-        return 99;
-    }
-    if trying::same(due, &buffer[..n]) {
+    let m = io::count(due.len() as isize, buffer);
+    if (refusal == 0) & (n != 0) & (n == due.len()) & check::same(due, &buffer[..m]) {
         1
     } else {
         99
@@ -71,7 +63,7 @@ fn check_key(script: &[u8], n: usize, k: u8, chip: &[u8], work: &[u32]) -> usize
 }
 
 // Whether the map is the one after the calls before n: each of eight keys is, and there are no others.
-pub fn holds(script: &[u8], n: usize, chip: &[u8], work: &[u32]) -> bool
+fn holds(script: &[u8], n: usize, chip: &[u8], work: &[u32]) -> bool
     requires { ⌜ n ≤ length (now script) ⌝ }
 {
     let mut live = 0;
@@ -108,6 +100,18 @@ fn due(line: &[u8], made: bool) -> u32 {
     0
 }
 
+// Whether the call of a line is answered as it should be.
+fn answered(
+    line: &[u8],
+    made: bool,
+    chip: &mut [u8],
+    work: &mut [u32],
+    fuse: &mut u64,
+    noise: &[u8; 4096],
+) -> bool {
+    calls::refusal(calls::make(line, chip, work, fuse, noise)) == due(line, made)
+}
+
 // The calls from there on, on the map of place n, up to the first that isn't answered as it should be. Answers where that is.
 fn run(
     script: &[u8],
@@ -123,9 +127,8 @@ fn run(
 {
     let mut at = from;
     while at < script.len() {
-        let line = trying::line(script, at);
-        if calls::refusal(calls::make(line, chip, work, fuse, noise)) != due(line, at < n) {
-            return at;
+        if !answered(trying::line(script, at), at < n, chip, work, fuse, noise) {
+            break;
         }
         at = trying::next(script, at);
     }
@@ -133,17 +136,26 @@ fn run(
 }
 
 // The call of a line, with power that stays. Answers the refusal's number.
-pub fn make(line: &[u8], chip: &mut [u8], work: &mut [u32], noise: &[u8; 4096]) -> u32 {
+fn make(line: &[u8], chip: &mut [u8], work: &mut [u32], noise: &[u8; 4096]) -> u32 {
     let mut fuse = LONG;
     calls::refusal(calls::make(line, chip, work, &mut fuse, noise))
 }
 
+// Whether a start is done.
+fn starts(chip: &mut [u8], work: &mut [u32], noise: &[u8; 4096]) -> bool {
+    make(b"start", chip, work, noise) == 0
+}
+
 // The power has gone during that call: it is refused until a start, which is done.
 fn recovers(line: &[u8], chip: &mut [u8], work: &mut [u32], noise: &[u8; 4096]) -> bool {
-    if make(line, chip, work, noise) != 7 {
-        return false;
-    }
-    make(b"start", chip, work, noise) == 0
+    let refused = make(line, chip, work, noise) == 7;
+    starts(chip, work, noise) & refused
+}
+
+// Whether after a start the map is the one after all calls.
+pub fn ended(script: &[u8], chip: &mut [u8], work: &mut [u32], noise: &[u8; 4096]) -> bool {
+    let started = starts(chip, work, noise);
+    holds(script, script.len(), chip, work) & started
 }
 
 // ---- a cut

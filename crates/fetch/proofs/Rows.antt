@@ -10,7 +10,9 @@ use lib.Dec.{leb}
 use lib.ListN.{length, take, drop, set, getD}
 use lib.Seq.{take-suc, drop-cons, drop-append-seam, set-at, append-snoc, length-take-le, take-length, getD-take}
 use borrow.Author.Tests.{le-leb, lt-leb}
-use Rattle.record.specs.Record.{valueAt}
+use Rattle.chip.specs.Chip.{pageAt}
+use Rattle.record.specs.Record.{valueLength, valueAt}
+use Rattle.record.proofs.Fields.{value-long}
 use Rattle.log.specs.Key.{Key}
 use Rattle.log.specs.Map.{lookup}
 use Rattle.log.specs.Log.{pages}
@@ -24,7 +26,7 @@ use Rattle.index.specs.declared.Found.the-variants.{At, Missing}
 use Rattle.index.proofs.Values.{found-value, found-inside, missed-value}
 use Rattle.index.proofs.Rows.{table-ordered}
 use Rattle.lent.specs.Area.{blocksOf, mapIn}
-use Rattle.fetch.specs.Fetched.{Gets, Fetches}
+use Rattle.fetch.specs.Fetched.{Got, Gets, Fetches}
 use Rattle.lent.specs.declared.Answer.{Answer}
 use Rattle.lent.specs.declared.Answer.the-variants.{Done, Refused}
 
@@ -89,6 +91,22 @@ module _ (v b : List ℕ) where
   gets-all b′ l e =
       subst (λ (s : Says (ℕ × List ℕ)). Gets b b′ s (Done (length v))) (got-by false (lt-leb (suc (length b)) (length v) (omega arith))) (record { ends = (refl, e) })
 
+-- the value on page p, whose length is n
+module _ (c b : List ℕ) (p n : ℕ) (h : 256 * p + 256 ≤ length c) (e : n ≡ valueLength (pageAt c p)) where
+  long : length (valueAt c p) ≡ n
+  long = value-long c p h ∙ sym e
+
+  pub value-short : length b < n → Gets b b (gotten b (some (valueAt c p))) (Refused 6)
+  value-short l = gets-short (valueAt c p) b (omega (arith, long))
+
+  pub value-all : (v b′ : List ℕ) (k : ℕ) → n ≤ length b → v ≡ valueAt c p → k ≡ n → b′ ≡ v ++ drop k b
+      → Got b b′ (Done n) × Gets b b′ (gotten b (some (valueAt c p))) (Done n)
+  value-all v b′ k l d m q =
+      let w : b′ ≡ valueAt c p ++ drop (length (valueAt c p)) b =
+      q ∙ ap (λ (x : List ℕ). x ++ drop k b) d ∙ ap (λ (j : ℕ). valueAt c p ++ drop j b) (m ∙ sym long) in
+      subst (λ (k : ℕ). Got b b′ (Done k) × Gets b b′ (gotten b (some (valueAt c p))) (Done k)) long
+      (record { ends = (omega (arith, long), handed-rest (valueAt c p) b b′ w) }, gets-all (valueAt c p) b b′ (omega (arith, long)) w)
+
 -- ---- A VALUE IS FETCHED, by what the search found
 module _ (c ix : List ℕ) (n : ℕ) (k : Key) (f : Found) (within : Within n f) (finds : Ordered c (take n ix) → Finds (keysOf c (take n ix)) k f) where
   pub fetches-missing : (b : List ℕ) (i a : ℕ) → f ≡ Missing i → a ≡ 4 → Fetches c (take n ix) (lookup k (mapIn c)) b b (Refused a)
@@ -112,13 +130,12 @@ module _ (c ix : List ℕ) (n : ℕ) (k : Key) (f : Found) (within : Within n f)
               absurd (omega (arith, at-entry, index-inside c (take n ix) big size same k i (subst (Finds (keysOf c (take n ix)) k) e (finds (index-ordered c (take n ix) big size same)))));
         }
 
-    pub fetches-value : (b b′ : List ℕ) (r : Answer) (v : List ℕ) → v ≡ valueAt c p → Gets b b′ (gotten b (some v)) r → Fetches c (take n ix) (lookup k (mapIn c)) b b′ r
-    fetches-value b b′ r v w g =
+    pub fetches-value : (b b′ : List ℕ) (r : Answer) → Gets b b′ (gotten b (some (valueAt c p))) r → Fetches c (take n ix) (lookup k (mapIn c)) b b′ r
+    fetches-value b b′ r g =
         record {
           right = λ big size same.
               subst (λ (o : Option (List ℕ)). Gets b b′ (gotten b o) r)
-              (ap (λ (x : List ℕ). some x) w
-              ∙ sym (index-value c (take n ix) big size same k i (subst (Finds (keysOf c (take n ix)) k) e (finds (index-ordered c (take n ix) big size same)))
+              (sym (index-value c (take n ix) big size same k i (subst (Finds (keysOf c (take n ix)) k) e (finds (index-ordered c (take n ix) big size same)))
               ∙ ap (λ (x : ℕ). some (valueAt c x)) at-entry))
               g;
         }

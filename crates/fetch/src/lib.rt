@@ -3,27 +3,28 @@
 use index::Found;
 use lent::Answer;
 ghost use mathlib.Core.Option.{some};
-ghost use Prim.Native.Nat.{_≤_};
+ghost use Prim.Native.Nat.{_+_, _*_, _≤_};
 ghost use lib.ListN.{length, take};
+ghost use Rattle.record.specs.Record.{valueAt};
 ghost use Rattle.log.specs.Answers.{gotten};
 ghost use Rattle.log.specs.Map.{lookup};
 ghost use Rattle.lent.specs.Area.{mapIn};
 ghost use Rattle.fetch.specs.Fetched.{Got, Gets, Counted, GetEnds, CountEnds, Fetches};
 
-// The bytes go to the start of the buffer. Answers how many they are.
-pub fn hand_out(bytes: &[u8], buffer: &mut [u8]) -> Answer
+// The value on page p goes to the start of the buffer. Answers how long it is. Its length is in the beginning of the page; past that no more is read than the
+// value, and straight into the buffer.
+fn hand_value(chip: &[u8], p: usize, buffer: &mut [u8]) -> Answer
+    requires { ⌜ 256 * p + 256 ≤ length (now chip) ⌝ }
     ensures got { λ r. ⌜ Got (now (buffer .entry)) (now (buffer .exit)) r ⌝ }
-    ensures right { λ r. ⌜ Gets (now (buffer .entry)) (now (buffer .exit)) (gotten (now (buffer .entry)) (some (now (bytes .entry)))) r ⌝ }
+    ensures right { λ r. ⌜ Gets (now (buffer .entry)) (now (buffer .exit)) (gotten (now (buffer .entry)) (some (valueAt (now (chip .entry)) p))) r ⌝ }
 {
-    if buffer.len() < bytes.len() {
+    let begins = chip::beginning_at(chip, p);
+    let n = record::value_length(&begins);
+    if buffer.len() < n {
         return Answer::Refused(6);
     }
-    let mut i = 0;
-    while i < bytes.len() {
-        buffer[i] = bytes[i];
-        i += 1;
-    }
-    Answer::Done(bytes.len())
+    record::read_value(chip, p, &mut buffer[0..n]);
+    Answer::Done(n)
 }
 
 // The value of the key, by the index.
@@ -38,7 +39,7 @@ fn fetch(chip: &[u8], index: &[u32], n: usize, key: &[u8], buffer: &mut [u8]) ->
             if chip.len() / 256 <= p {
                 return Answer::Refused(8);
             }
-            hand_out(record::value_at(chip, p), buffer)
+            hand_value(chip, p, buffer)
         }
         Found::Missing(_) => Answer::Refused(4),
     }

@@ -73,8 +73,8 @@ found-none c ps k lo hi b h l =
       );
     }
 
--- ---- a turn of the loop: among the first n entries of ix the one in the middle, m, is page p, whose key is j; it was compared with k
-module _ (c ix : List ℕ) (k j : Key) (n m p : ℕ) (fits : n ≤ length ix) (h : m < n) (e : p ≡ getD ix m 0) where
+-- ---- a turn of the loop: among the first n entries of ix the one in the middle, m, is page p, whose key was compared with k
+module _ (c ix : List ℕ) (k : Key) (n m p : ℕ) (fits : n ≤ length ix) (h : m < n) (e : p ≡ getD ix m 0) where
   mid-in : m < length (take n ix)
   mid-in = omega (arith, length-take-le n ix fits)
 
@@ -85,12 +85,12 @@ module _ (c ix : List ℕ) (k j : Key) (n m p : ℕ) (fits : n ≤ length ix) (h
   pub turn-inside : Ordered c (take n ix) → length c / 256 ≤ p → ⊥
   turn-inside o l = omega (arith, o .inside m mid-in, middle)
 
-  module _ (q : j ≡ keyAt c p) (r : Order) (d : Compared j k r) where
-    key-middle : j ≡ keyAt c (getD (take n ix) m 0)
-    key-middle = q ∙ ap (keyAt c) middle
+  module _ (r : Order) (d : Compared (keyAt c p) k r) where
+    key-middle : keyAt c p ≡ keyAt c (getD (take n ix) m 0)
+    key-middle = ap (keyAt c) middle
 
-    said : (s : Order) → r ≡ s → ComparedBy j k s
-    said s w = subst (ComparedBy j k) w (d .says)
+    said : (s : Order) → r ≡ s → ComparedBy (keyAt c p) k s
+    said s w = subst (ComparedBy (keyAt c p) k) w (d .says)
 
     module _ (o : Ordered c (take n ix)) where
       pub turn-up : (lo hi : ℕ) → r ≡ Below → Bracket c (take n ix) k lo hi → Bracket c (take n ix) k (m + 1) hi

@@ -2,8 +2,9 @@
 // take one out. The definitions are in specs/Index.antt. No entries, whatever they are, make a call trap.
 ghost use mathlib.Core.Path.{_≡_};
 ghost use mathlib.Core.List.{_++_};
-ghost use Prim.Native.Nat.{_+_, _-_, _≤_, _<_};
+ghost use Prim.Native.Nat.{_+_, _-_, _*_, _≤_, _<_};
 ghost use lib.ListN.{length, take, drop};
+ghost use Rattle.record.specs.Record.{keyAt};
 ghost use Rattle.index.specs.Index.{keysOf, Ordered, insertAt, removeAt};
 ghost use Rattle.index.specs.Answers.{Compared, Within, Finds, putAt, takeOut};
 
@@ -45,6 +46,15 @@ pub fn compare(a: &[u8], b: &[u8]) -> Order
     Order::Same
 }
 
+// How the key on page p stands to a key. Of the page the beginning is read, 32 bytes.
+fn compare_at(chip: &[u8], p: usize, key: &[u8]) -> Order
+    requires { ⌜ 256 * p + 256 ≤ length (now chip) ⌝ }
+    ensures { λ r. ⌜ Compared (keyAt (now (chip .entry)) p) (now (key .entry)) r ⌝ }
+{
+    let begins = chip::beginning_at(chip, p);
+    compare(record::key_on(&begins), key)
+}
+
 // A word of the work area as a number.
 pub fn word(x: u32) -> usize
     ensures { λ r. ⌜ r ≡ x ⌝ }
@@ -67,7 +77,7 @@ pub fn find(chip: &[u8], index: &[u32], n: usize, key: &[u8]) -> Found
         if pages <= p {
             return Found::Missing(lo);
         }
-        match compare(record::key_at(chip, p), key) {
+        match compare_at(chip, p, key) {
             Order::Below => {
                 lo = mid + 1;
             }

@@ -4,9 +4,27 @@ use index::Found;
 use lent::Answer;
 ghost use Prim.Native.Nat.{_≤_};
 ghost use lib.ListN.{length, take};
-ghost use Rattle.fetch.specs.Fetched.{Got, Fetches};
+ghost use mathlib.Core.Option.{some};
+ghost use Rattle.log.specs.Answers.{gotten};
+ghost use Rattle.fetch.specs.Fetched.{Got, Gets, Fetches};
 ghost use Rattle.lent.specs.Area.{mapIn};
 ghost use Rattle.keys.specs.Next.{nextKey, HandsFrom, NextEnds};
+
+// A key goes to the start of the buffer. Answers how long it is.
+fn hand_out(key: &[u8], buffer: &mut [u8]) -> Answer
+    ensures got { λ r. ⌜ Got (now (buffer .entry)) (now (buffer .exit)) r ⌝ }
+    ensures right { λ r. ⌜ Gets (now (buffer .entry)) (now (buffer .exit)) (gotten (now (buffer .entry)) (some (now (key .entry)))) r ⌝ }
+{
+    if buffer.len() < key.len() {
+        return Answer::Refused(6);
+    }
+    let mut i = 0;
+    while i < key.len() {
+        buffer[i] = key[i];
+        i += 1;
+    }
+    Answer::Done(key.len())
+}
 
 // The key on the page of entry i, if there are so many entries.
 fn hand_key(chip: &[u8], index: &[u32], n: usize, i: usize, buffer: &mut [u8]) -> Answer
@@ -21,7 +39,8 @@ fn hand_key(chip: &[u8], index: &[u32], n: usize, i: usize, buffer: &mut [u8]) -
     if chip.len() / 256 <= p {
         return Answer::Refused(8);
     }
-    fetch::hand_out(record::key_at(chip, p), buffer)
+    let begins = chip::beginning_at(chip, p);
+    hand_out(record::key_on(&begins), buffer)
 }
 
 // The next key, by the index.

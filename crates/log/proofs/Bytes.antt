@@ -7,12 +7,12 @@ use mathlib.Core.List.{List}
 use Prim.Native.Nat.{ℕ, _+_, _*_, _≤_}
 use lib.ListN.{length}
 use Rattle.page.specs.Page.{sound}
-use Rattle.chip.specs.Chip.{Power, goes, stays, pageAt, written, erased}
+use Rattle.chip.specs.Chip.{Power, goes, stays, written, erased}
 use Rattle.chip.specs.Play.{Writable}
 use Rattle.chip.proofs.Pages.{erased-whole}
 use Rattle.record.specs.Record.{Rec, Proper, recOf, recAt, recordPage, sealPage}
 use Rattle.record.proofs.Trip.{record-sound, record-says, seal-sound, seal-says}
-use Rattle.record.proofs.Reading.{says-sound}
+use Rattle.record.proofs.Reading.{said}
 use Rattle.record.proofs.Operations.{write-says, write-fills, cut-says, write-says-else, write-blank-else, erase-says-else, erase-blank-else}
 use Rattle.log.specs.Ring.{chipOf}
 use Rattle.log.specs.Call.{Page, Block, Erased, Wrote, CutWrote}
@@ -37,7 +37,7 @@ module _ (noise : List ℕ) (p : ℕ) (g c : List ℕ) (w : Writable p g c) wher
         go (inl d) = inl (d ∙ e)
         go (inr d) = inr d
 
--- of a record, of a seal, and of a copy of page q, its bytes as they are
+-- of a record, of a seal, and of a copy of a page, its bytes as they are
 module _ (noise : List ℕ) (p : ℕ) (c : List ℕ) where
   module _ (r : Rec) (f : Proper r) (w : Writable p (recordPage r) c) where
     -- a record, whole
@@ -57,18 +57,14 @@ module _ (noise : List ℕ) (p : ℕ) (c : List ℕ) where
     pub cut-seal : CutWrote p none (chipOf c) (chipOf (written goes noise p sealPage c))
     cut-seal = cut-wrote noise p sealPage c w none seal-sound seal-says
 
-  module _ (q : ℕ) (r : Rec) (at : recAt c q ≡ some r) (w : Writable p (pageAt c q) c) where
-    says : recOf (pageAt c q) ≡ some r
-    unfolding recAt
-    says = at
-
+  module _ (g : List ℕ) (r : Rec) (says : recOf g ≡ some r) (w : Writable p g c) where
     -- a copy, whole
-    pub wrote-copy : Wrote p (some r) (chipOf c) (chipOf (written stays noise p (pageAt c q) c))
-    wrote-copy = wrote noise p (pageAt c q) c w (some r) (says-sound c q r at) says
+    pub wrote-copy : Wrote p (some r) (chipOf c) (chipOf (written stays noise p g c))
+    wrote-copy = wrote noise p g c w (some r) (said g r says .is-sound) says
 
     -- a copy, cut short
-    pub cut-copy : CutWrote p (some r) (chipOf c) (chipOf (written goes noise p (pageAt c q) c))
-    cut-copy = cut-wrote noise p (pageAt c q) c w (some r) (says-sound c q r at) says
+    pub cut-copy : CutWrote p (some r) (chipOf c) (chipOf (written goes noise p g c))
+    cut-copy = cut-wrote noise p g c w (some r) (said g r says .is-sound) says
 
 -- ---- AN ERASE: whole, and in any case
 module _ (noise : List ℕ) (b : ℕ) (c : List ℕ) (h : 4096 * b + 4096 ≤ length c) where

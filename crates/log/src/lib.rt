@@ -14,7 +14,7 @@ pub const PLACES: usize = 15;
 
 // The block k after block h of the ring.
 pub fn block_after(h: usize, k: usize, b: usize) -> usize
-    requires { ⌜ (h < b) × (k ≤ 2) × (b ≤ mostBlocks) × (4 ≤ b) ⌝ }
+    requires { ⌜ (h < b) × (k ≤ b) × (b ≤ mostBlocks) × (4 ≤ b) ⌝ }
     ensures { λ r. ⌜ (r ≡ (h + k) % b) × (r < b) ⌝ }
 {
     (h + k) % b

@@ -1,6 +1,6 @@
 pub mod Laying
 pub mod KindTests
-pub mod InPlace
+pub mod Fields
 pub mod Trip
 pub mod Reading
 pub mod Operations

@@ -1,4 +1,4 @@
--- What is known of a page that says something: it is sound, and key and value stand in place. Assumes nothing.
+-- What is known of a page that says something: it is sound, and has its key and value. Assumes nothing.
 use mathlib.Core.Path.{_≡_, refl, sym, ap, _∙_}
 use mathlib.Core.Bool.{Bool, true, false, cond, _&&_}
 use mathlib.Core.Option.{Option, none, some}
@@ -14,8 +14,9 @@ use Rattle.page.specs.Page.{byte, sound}
 use Rattle.page.proofs.All.{and-left, and-right}
 use Rattle.chip.specs.Chip.{pageAt}
 use Rattle.chip.proofs.Pages.{length-page}
-use Rattle.record.specs.Record.{Rec, recordOf, isValue, isNote, decode, recOf, recAt, fieldAt, keyAt, valueAt}
+use Rattle.record.specs.Record.{Rec, recordOf, isValue, isNote, decode, recOf, recAt, keyOn, keyAt, valueAt}
 use Rattle.record.specs.Kinds.{kindOf, kindOfWhat}
+use Rattle.record.specs.declared.Kind.{Kind}
 use Rattle.record.specs.declared.Kind.the-variants.{Value, Note, Nothing}
 
 pub record Said (pg : List ℕ) (r : Rec) : Type 0 where
@@ -87,16 +88,13 @@ module _ (c : List ℕ) (p : ℕ) (r : Rec) (e : recAt c p ≡ some r) where
   unfolding recAt
   on-page = said (pageAt c p) r e
 
-  pub says-sound : sound (pageAt c p) ≡ true
-  says-sound = on-page .is-sound
-
-  -- its key and its value stand in place
+  -- its key and its value are those on the page
   pub says-key : keyAt c p ≡ r .key
-  unfolding fieldAt
+  unfolding keyOn
   says-key = ap (λ (n : ℕ). take n (drop 16 (pageAt c p))) (min-eq-left (on-page .short-key)) ∙ on-page .key
 
   pub says-value : (v : List ℕ) → r .what ≡ some v → valueAt c p ≡ v
-  unfolding fieldAt
+  unfolding valueAt
   says-value v q = ap (λ (n : ℕ). take n (drop 32 (pageAt c p))) (min-eq-left (on-page .short-value)) ∙ on-page .value v q
 
   -- their lengths are those of document 01
@@ -140,3 +138,8 @@ kind-note (some r) e = go (r .what) refl e
     go : (w : Option (List ℕ)) → r .what ≡ w → kindOfWhat w ≡ Note → (k : List ℕ) × (some r ≡ some (recordOf true k []))
     go none h q = (r .key, λ i. some (record { key = r .key; what = h i }))
     go (some v) h q = let z : _≡_ {A = ℕ} 0 1 = cc in absurd (omega arith)
+
+-- what kind of thing page p says, by the bytes that were read
+pub read-kind : (c pg : List ℕ) (p : ℕ) (k s : Kind) → pg ≡ pageAt c p → k ≡ kindOf (recOf pg) → k ≡ s → kindOf (recAt c p) ≡ s
+unfolding recAt
+read-kind c pg p k s u e d = sym (e ∙ ap (λ (g : List ℕ). kindOf (recOf g)) u) ∙ d

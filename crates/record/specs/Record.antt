@@ -77,14 +77,17 @@ recOf pg = cond (sound pg) (decode pg) none
 unfoldable pub recAt : List ℕ → ℕ → Option Rec
 recAt c p = recOf (pageAt c p)
 
--- ---- IN PLACE: key and value as parts of the page
+-- ---- THE KEY AND THE VALUE ON A PAGE, whatever it says: a length above 16 or 96 is cut, so that no bytes lead out of the page
 
--- the field that begins at byte a, and whose length stands in byte i; one above `most` is cut, so that no bytes lead out of the page
-unfoldable pub fieldAt : List ℕ → ℕ → ℕ → ℕ → ℕ → List ℕ
-fieldAt c p i a most = take (min (byte (pageAt c p) i) most) (drop a (pageAt c p))
+unfoldable pub keyOn : List ℕ → List ℕ
+keyOn pg = take (min (byte pg 2) 16) (drop 16 pg)
 
+abbrev pub valueLength : List ℕ → ℕ
+valueLength pg = min (byte pg 3) 96
+
+-- those of page p
 abbrev pub keyAt : List ℕ → ℕ → List ℕ
-keyAt c p = fieldAt c p 2 16 16
+keyAt c p = keyOn (pageAt c p)
 
-abbrev pub valueAt : List ℕ → ℕ → List ℕ
-valueAt c p = fieldAt c p 3 32 96
+unfoldable pub valueAt : List ℕ → ℕ → List ℕ
+valueAt c p = take (valueLength (pageAt c p)) (drop 32 (pageAt c p))

@@ -1,12 +1,12 @@
 // What a page says: a value that was put, a note of a deletion, or nothing; and the pages of a record and of a seal.
-// The layout is in docs/FORMAT.md, the definitions in specs/Record.antt. Key and value are read in place, as parts of the chip's slice.
+// The layout is in docs/FORMAT.md, the definitions in specs/Record.antt. What is looked at is a page, or its beginning, as `chip` read it.
 // Any bytes say something or nothing; no bytes make a call trap.
 ghost use mathlib.Core.Path.{_≡_};
-ghost use Prim.Native.Nat.{_+_, _*_, _≤_, _<_, min};
+ghost use Prim.Native.Nat.{_+_, _*_, _≤_, min};
 ghost use lib.ListN.{length};
 ghost use Rattle.page.specs.Page.{form};
-ghost use Rattle.chip.specs.Chip.{splice};
-ghost use Rattle.record.specs.Record.{isValue, isNote, recOf, recAt, fieldAt, keyAt, valueAt, payload, recordOf, recordPage, sealPage};
+ghost use Rattle.chip.specs.Chip.{pageAt, splice};
+ghost use Rattle.record.specs.Record.{isValue, isNote, recOf, keyOn, valueLength, valueAt, payload, recordOf, recordPage, sealPage};
 ghost use Rattle.record.specs.Kinds.{kindOf};
 
 // The kinds of what a page says. A seal says nothing.
@@ -30,8 +30,8 @@ fn is_note(form: u8, kind: u8, klen: u8, vlen: u8) -> bool
     (form == 1) & (kind == 2) & (1 <= klen) & (klen <= 16) & (vlen == 0)
 }
 
-// What kind of thing a page says. Four bytes are looked at first: of a blank page no more is read.
-fn kind_of(page: &[u8]) -> Kind
+// What kind of thing a page says. Four bytes are looked at first: of a blank page no more.
+pub fn kind_of(page: &[u8]) -> Kind
     requires { ⌜ length (now page) ≡ 256 ⌝ }
     ensures { λ r. ⌜ r ≡ kindOf (recOf (now (page .entry))) ⌝ }
 {
@@ -46,15 +46,6 @@ fn kind_of(page: &[u8]) -> Kind
     if value { Kind::Value } else { Kind::Note }
 }
 
-// What kind of thing page p says.
-pub fn kind_at(chip: &[u8], p: usize) -> Kind
-    requires { ⌜ 256 * p + 256 ≤ length (now chip) ⌝ }
-    ensures { λ r. ⌜ r ≡ kindOf (recAt (now (chip .entry)) p) ⌝ }
-{
-    let a = 256 * p;
-    kind_of(&chip[a..a + 256])
-}
-
 // A length that stands on a page, cut at what a page holds.
 fn at_most(x: u8, most: usize) -> usize
     ensures { λ r. ⌜ r ≡ min x most ⌝ }
@@ -63,30 +54,29 @@ fn at_most(x: u8, most: usize) -> usize
     if n < most { n } else { most }
 }
 
-// The field that begins at byte a of page p, and whose length stands in byte i.
-fn field_at(chip: &[u8], p: usize, i: usize, a: usize, most: usize) -> &[u8]
-    requires { ⌜ (256 * p + 256 ≤ length (now chip)) × (i < 256) × (a + most ≤ 256) ⌝ }
-    ensures { λ r. ⌜ now r ≡ fieldAt (now (chip .entry)) p i a most ⌝ }
+// The key on a page, of which the beginning will do.
+pub fn key_on(page: &[u8]) -> &[u8]
+    requires { ⌜ 32 ≤ length (now page) ⌝ }
+    ensures { λ r. ⌜ now r ≡ keyOn (now (page .entry)) ⌝ }
 {
-    let from = 256 * p + a;
-    let to = from + at_most(chip[256 * p + i], most);
-    &chip[from..to]
+    let n = at_most(page[2], 16);
+    &page[16..16 + n]
 }
 
-// The key on page p.
-pub fn key_at(chip: &[u8], p: usize) -> &[u8]
-    requires { ⌜ 256 * p + 256 ≤ length (now chip) ⌝ }
-    ensures { λ r. ⌜ now r ≡ keyAt (now (chip .entry)) p ⌝ }
+// How long the value on a page is, of which the beginning will do.
+pub fn value_length(page: &[u8]) -> usize
+    requires { ⌜ 32 ≤ length (now page) ⌝ }
+    ensures { λ r. ⌜ r ≡ valueLength (now (page .entry)) ⌝ }
 {
-    field_at(chip, p, 2, 16, 16)
+    at_most(page[3], 96)
 }
 
-// The value on page p.
-pub fn value_at(chip: &[u8], p: usize) -> &[u8]
-    requires { ⌜ 256 * p + 256 ≤ length (now chip) ⌝ }
-    ensures { λ r. ⌜ now r ≡ valueAt (now (chip .entry)) p ⌝ }
+// The value on page p is read, to where there is as much room as it takes.
+pub fn read_value(chip: &[u8], p: usize, to: &mut [u8])
+    requires { ⌜ (256 * p + 256 ≤ length (now chip)) × (length (now to) ≡ valueLength (pageAt (now chip) p)) ⌝ }
+    ensures { λ _. ⌜ now (to .exit) ≡ valueAt (now (chip .entry)) p ⌝ }
 {
-    field_at(chip, p, 3, 32, 96)
+    chip::read(chip, 256 * p + 32, to);
 }
 
 // Copies src to dst, from index a on.

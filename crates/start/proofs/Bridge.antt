@@ -3,7 +3,7 @@ use mathlib.Core.Path.{_≡_, sym, ap, _∙_, subst}
 use mathlib.Core.List.{List, []}
 use mathlib.Core.Option.{some}
 use mathlib.Core.Bool.{true, false}
-use Prim.Native.Nat.{ℕ, _+_, _*_, _≤_}
+use Prim.Native.Nat.{ℕ, zero, suc, _+_, _-_, _*_, _%_, _≤_, _<_}
 use native.Mathlib.Omega.{arith}
 use lib.ListN.{length}
 use Rattle.record.specs.Record.{Rec, recAt, recordOf, keyAt}
@@ -13,12 +13,14 @@ use Rattle.record.proofs.Reading.{says-key, kind-value, kind-note, kind-nothing
 use Rattle.log.specs.Key.{Key}
 use Rattle.log.specs.Log.{placed, oldest, run, pages}
 use Rattle.log.specs.Ring.{chipOf, tableAt}
+use Rattle.log.proofs.Window.{page-at}
 use Rattle.log.proofs.Start.{run-empty, run-none, run-own}
 use Rattle.index.specs.Index.{keysOf, Ordered}
 use Rattle.index.specs.Answers.{Finds, putAt, takeOut}
 use Rattle.index.specs.declared.Found.{Found}
 use Rattle.index.proofs.Rows.{rows-ordered, put-row, take-row}
-use Rattle.start.specs.Scan.{Replays}
+use Rattle.ring.specs.Seals.{Begins}
+use Rattle.start.specs.Replay.{Replays, ReplaysTo}
 
 -- ---- A PAGE IS REPLAYED, by what it says
 module _ (c : List ℕ) (p : ℕ) (ps ps′ : List ℕ) where
@@ -54,13 +56,49 @@ module _ (c : List ℕ) (p : ℕ) (ps ps′ : List ℕ) where
               ∙ ap (pages B) (sym (run-own B (recAt c) e s (recordOf true (v .0) []) low (ap (recAt c) (sym at) ∙ v .1)));
         }
 
--- ---- THE REPLAY BEGINS, AND IS THROUGH
-module _ (B h : ℕ) (c : List ℕ) where
-  pub rows-begin : (s : ℕ) → s ≡ 15 * (h + 2) → [] ≡ pages B (run B (recAt c) (h + B) s)
-  rows-begin s q =
-      let d : oldest B (h + B) ≡ s = omega arith in
-      ap (pages B) (sym (run-empty B (recAt c) (h + B))) ∙ ap (λ (x : ℕ). pages B (run B (recAt c) (h + B) x)) d
+-- ---- A BLOCK IS REPLAYED, place by place
+module _ (c : List ℕ) (x : ℕ) (ps : List ℕ) where
+  pub block-begins : ReplaysTo c x 0 ps ps
+  block-begins =
+      record { one = λ B e y big size low at h. let z : 15 * y ≡ 15 * y + 0 = omega arith in h ∙ ap (λ (s : ℕ). pages B (run B (recAt c) e s)) z }
 
-  pub rows-end : (ps : List ℕ) (s : ℕ) → s ≡ 15 * (h + B + 1) → ps ≡ pages B (run B (recAt c) (h + B) s) → ps ≡ pages B (tableAt B (chipOf c) h)
+  pub block-next : (j : ℕ) (ps₁ ps₂ : List ℕ) → j < 15 → ReplaysTo c x j ps ps₁ → Replays c (16 * x + j) ps₁ ps₂ → ReplaysTo c x (j + 1) ps ps₂
+  block-next j ps₁ ps₂ l a b =
+      record {
+        one = λ B e y big size low at h.
+            let z : suc (15 * y + j) ≡ 15 * y + (j + 1) = omega arith in
+            b .one B e (15 * y + j) big size (omega arith) (ap (λ (k : ℕ). 16 * k + j) at ∙ sym (page-at B y j l)) (a .one B e y big size low at h)
+            ∙ ap (λ (s : ℕ). pages B (run B (recAt c) e s)) z;
+      }
+
+  pub block-ends : (j : ℕ) (ps₁ : List ℕ) → j ≡ 15 → ReplaysTo c x j ps ps₁ → ReplaysTo c x 15 ps ps₁
+  block-ends j ps₁ e a = subst (λ (i : ℕ). ReplaysTo c x i ps ps₁) e a
+
+-- ---- THE REPLAY BEGINS, GOES ON, AND IS THROUGH
+module _ (B h : ℕ) (c : List ℕ) where
+  abbrev rows : ℕ → List ℕ
+  rows s = pages B (run B (recAt c) (h + B) s)
+
+  -- the places before it say nothing
+  pub rows-begin : (r : ℕ) → 0 < r → Begins B (chipOf c) h r → [] ≡ rows (15 * (h + r))
+  rows-begin r far b =
+      let n : oldest B (h + B) + 15 * (r - 2) ≡ 15 * (h + r) = omega (arith, b .range far .0) in
+      ap (pages B) (sym (run-empty B (recAt c) (h + B))) ∙ go (15 * (r - 2)) (omega arith) ∙ ap rows n
+    where
+      go : (n : ℕ) → n ≤ 15 * (r - 2) → rows (oldest B (h + B)) ≡ rows (oldest B (h + B) + n)
+      go zero l = let z : oldest B (h + B) ≡ oldest B (h + B) + 0 = omega arith in ap rows z
+      go (suc n) l =
+          let s : ℕ = oldest B (h + B) + n in
+          let z : suc s ≡ oldest B (h + B) + suc n = omega arith in
+          go n (omega arith) ∙ ap (pages B) (sym (run-none B (recAt c) (h + B) s (omega arith) (b .silent s (omega arith) (omega (arith, b .range far .0))))) ∙ ap rows z
+
+  -- one block more
+  pub rows-next : (x k : ℕ) (ps ps′ : List ℕ) → 4 ≤ B → length c ≡ 4096 * B → 2 ≤ k → x ≡ (h + k) % B → ReplaysTo c x 15 ps ps′ → ps ≡ rows (15 * (h + k))
+      → ps′ ≡ rows (15 * (h + (k + 1)))
+  rows-next x k ps ps′ big size l e b d =
+      let z : 15 * (h + k) + 15 ≡ 15 * (h + (k + 1)) = omega arith in
+      b .one B (h + B) (h + k) big size (omega arith) e d ∙ ap rows z
+
+  pub rows-end : (ps : List ℕ) (k : ℕ) → k ≡ B + 1 → ps ≡ rows (15 * (h + k)) → ps ≡ pages B (tableAt B (chipOf c) h)
   unfolding tableAt
-  rows-end ps s q d = let f : s ≡ 15 * (h + B) + 15 = omega arith in d ∙ ap (λ (x : ℕ). pages B (run B (recAt c) (h + B) x)) f
+  rows-end ps k q d = let f : 15 * (h + k) ≡ 15 * (h + B) + 15 = omega arith in d ∙ ap rows f

@@ -1,3 +1,2 @@
 pub mod Bridge
-pub mod Scan
 pub mod Starts

@@ -18,7 +18,7 @@ use Rattle.log.proofs.RingLaws.{test-ring}
 use Rattle.log.proofs.Index.{pages-length}
 use Rattle.lent.specs.Area.{blocksOf, Sized, mapIn, mark, lentToStart, Holds}
 use Rattle.start.specs.Started.{Starts}
-use Rattle.start.specs.Scan.{ReadyFor, ReadiesBy, Readies}
+use Rattle.start.specs.Replay.{ReadyFor, ReadiesBy, Readies}
 use Rattle.lent.proofs.Area.{downed, downed-1, downed-2, downed-3, downed-16, back-long, back-index}
 use Rattle.lent.proofs.Numbers.{sizes-hold}
 use Rattle.lent.proofs.Held.{map-rows as map-table}
@@ -125,22 +125,22 @@ module _ (c : List ℕ) (f : ℕ) (w w′ : List ℕ) where
       at-head : h ≡ head (blocksOf c) (chipOf c)
       at-head = at ∙ ap (λ (B : ℕ). head B (chipOf c)) same
 
-      test-head : (t : Bool) → t ≡ ringTest b (chipOf c) h → ringTest (blocksOf c) (chipOf c) (head (blocksOf c) (chipOf c)) ≡ t
-      test-head t e = ap (λ (B : ℕ). ringTest B (chipOf c) (head B (chipOf c))) (sym same) ∙ ap (ringTest b (chipOf c)) (sym at) ∙ sym e
+      test-head : (t : Bool) → ringTest b (chipOf c) h ≡ t → ringTest (blocksOf c) (chipOf c) (head (blocksOf c) (chipOf c)) ≡ t
+      test-head t e = ap (λ (B : ℕ). ringTest B (chipOf c) (head B (chipOf c))) (sym same) ∙ ap (ringTest b (chipOf c)) (sym at) ∙ e
 
       -- no ring
-      pub start-unringed : (t : Bool) → t ≡ ringTest b (chipOf c) h → t ≡ false → mark w′ ≡ 0 → Starts c w w′ (startAnswer (lentToStart c f w) (chipOf c)) (Refused 8)
-      start-unringed t e z m = start-8 (ap (λ (x : Bool). x && leb (length (mapIn c)) (room (blocksOf c))) (test-head t e ∙ z)) m
+      pub start-unringed : ringTest b (chipOf c) h ≡ false → mark w′ ≡ 0 → Starts c w w′ (startAnswer (lentToStart c f w) (chipOf c)) (Refused 8)
+      start-unringed e m = start-8 (ap (λ (x : Bool). x && leb (length (mapIn c)) (room (blocksOf c))) (test-head false e)) m
 
       -- the keys of the map are those of the table of the head
       map-rows : length (mapIn c) ≡ length (tableAt (blocksOf c) (chipOf c) h)
       unfolding table
       map-rows = map-table (blocksOf c) (chipOf c) ∙ ap (λ (x : ℕ). length (tableAt (blocksOf c) (chipOf c) x)) (sym at-head)
 
-      both-tests : (t x y : Bool) → t ≡ ringTest b (chipOf c) h → t ≡ x → leb (length (mapIn c)) (room (blocksOf c)) ≡ y
+      both-tests : (x y : Bool) → ringTest b (chipOf c) h ≡ x → leb (length (mapIn c)) (room (blocksOf c)) ≡ y
           → (ringTest (blocksOf c) (chipOf c) (head (blocksOf c) (chipOf c)) && leb (length (mapIn c)) (room (blocksOf c))) ≡ (x && y)
-      both-tests t x y e p q =
-          ap (λ (z : Bool). z && leb (length (mapIn c)) (room (blocksOf c))) (test-head t e ∙ p) ∙ ap (λ (z : Bool). x && z) q
+      both-tests x y e q =
+          ap (λ (z : Bool). z && leb (length (mapIn c)) (room (blocksOf c))) (test-head x e) ∙ ap (λ (z : Bool). x && z) q
 
       -- an area that is ready for the head of a ring holds
       ready-holds : Ring (blocksOf c) (chipOf c) h → ReadyFor c h w′ → Holds c w′
@@ -158,15 +158,15 @@ module _ (c : List ℕ) (f : ℕ) (w w′ : List ℕ) where
           }
 
       -- a ring, and the last step
-      pub start-ringed : (t : Bool) → t ≡ ringTest b (chipOf c) h → t ≡ true → (r : Answer) → Readies c h w′ r → Starts c w w′ (startAnswer (lentToStart c f w) (chipOf c)) r
-      start-ringed t e z r y = go r (y .ends)
+      pub start-ringed : ringTest b (chipOf c) h ≡ true → (r : Answer) → Readies c h w′ r → Starts c w w′ (startAnswer (lentToStart c f w) (chipOf c)) r
+      start-ringed e r y = go r (y .ends)
         where
           go : (r : Answer) → ReadiesBy c h w′ r → Starts c w w′ (startAnswer (lentToStart c f w) (chipOf c)) r
           go (Done n) d =
-              let g : ringTest (blocksOf c) (chipOf c) h ≡ true = ap (λ (B : ℕ). ringTest B (chipOf c) h) (sym same) ∙ sym e ∙ z in
+              let g : ringTest (blocksOf c) (chipOf c) h ≡ true = ap (λ (B : ℕ). ringTest B (chipOf c) h) (sym same) ∙ e in
               subst (λ (i : ℕ). Starts c w w′ (startAnswer (lentToStart c f w) (chipOf c)) (Done i)) (sym (d .0))
-              (start-done (both-tests t true true e z (le-leb (length (mapIn c)) (room (blocksOf c)) (omega (arith, map-rows, d .1 .few, d .1 .count)))) (d .1 .marked)
+              (start-done (both-tests true true e (le-leb (length (mapIn c)) (room (blocksOf c)) (omega (arith, map-rows, d .1 .few, d .1 .count)))) (d .1 .marked)
               (ready-holds (test-ring (blocksOf c) (chipOf c) h g) (d .1)))
           go (Refused k) d =
               subst (λ (i : ℕ). Starts c w w′ (startAnswer (lentToStart c f w) (chipOf c)) (Refused i)) (sym (d .0))
-              (start-8 (both-tests t true false e z (lt-leb (length (mapIn c)) (room (blocksOf c)) (omega (arith, map-rows, d .2)))) (d .1))
+              (start-8 (both-tests true false e (lt-leb (length (mapIn c)) (room (blocksOf c)) (omega (arith, map-rows, d .2)))) (d .1))

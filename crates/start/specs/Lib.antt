@@ -1,2 +1,2 @@
 pub mod Started
-pub mod Scan
+pub mod Replay

@@ -1,124 +1,17 @@
-// Start (document 01, section 3): the ring is found by its seals, and the log replayed into the index. It writes nothing to the chip, and requires nothing of
-// its caller. How it ends is said in specs/Started.antt.
+// Start (document 01, section 3): the ring is found by its seals (the crate `ring`), and its log replayed into the index. It writes nothing to the chip, and
+// requires nothing of its caller. How it ends is said in specs/Started.antt.
 use index::Found;
 use lent::Answer;
 use record::Kind;
-ghost use mathlib.Core.Bool.{not};
 ghost use mathlib.Core.Path.{_≡_};
 ghost use Prim.Native.Nat.{_≤_, _<_, _*_, _+_, _-_};
 ghost use lib.ListN.{length, take, getD};
-ghost use Rattle.chip.specs.Chip.{blankAt};
 ghost use Rattle.log.specs.Log.{pages};
-ghost use Rattle.log.specs.Ring.{chipOf, head, ringTest, tableAt, mostBlocks, laterTest, nextTo};
+ghost use Rattle.log.specs.Ring.{chipOf, tableAt, mostBlocks};
 ghost use Rattle.lent.specs.Area.{blocksOf, Sized};
-ghost use Rattle.start.specs.Scan.{sealedBelow, blankFrom, Replays, Readies};
+ghost use Rattle.ring.specs.Seals.{Begins};
+ghost use Rattle.start.specs.Replay.{Replays, ReplaysTo, Readies};
 ghost use Rattle.start.specs.Started.{StartEnds};
-
-// Whether block x is sealed.
-fn sealed(chip: &[u8], x: usize) -> bool
-    requires { ⌜ 4096 * x + 4096 ≤ length (now chip) ⌝ }
-    ensures { λ r. ⌜ r ≡ not (blankAt (now (chip .entry)) (16 * x + 15)) ⌝ }
-{
-    !chip::blank_at(chip, 16 * x + log::PLACES)
-}
-
-// The head: the least block from 1 on that isn't sealed while the one before it is; 0 if there is none.
-fn find_head(chip: &[u8], b: usize) -> usize
-    requires { ⌜ (4 ≤ b) × (b ≤ mostBlocks) × (length (now chip) ≡ 4096 * b) ⌝ }
-    ensures within { λ r. ⌜ r < b ⌝ }
-    ensures right { λ r. ⌜ r ≡ head b (chipOf (now (chip .entry))) ⌝ }
-{
-    let mut before = sealed(chip, 0);
-    let mut x = 1;
-    while x < b {
-        let here = sealed(chip, x);
-        if before & !here {
-            return x;
-        }
-        before = here;
-        x += 1;
-    }
-    0
-}
-
-// Whether all blocks below h are sealed.
-fn sealed_below(chip: &[u8], h: usize) -> bool
-    requires { ⌜ 4096 * h ≤ length (now chip) ⌝ }
-    ensures { λ r. ⌜ r ≡ sealedBelow (chipOf (now (chip .entry))) h ⌝ }
-{
-    let mut x = 0;
-    while x < h {
-        if !sealed(chip, x) {
-            return false;
-        }
-        x += 1;
-    }
-    true
-}
-
-// Whether the pages from this one up to end are blank.
-fn blank_from(chip: &[u8], from: usize, end: usize) -> bool
-    requires { ⌜ (256 * end ≤ length (now chip)) × (from ≤ end) ⌝ }
-    ensures { λ r. ⌜ r ≡ blankFrom (chipOf (now (chip .entry))) from (end - from) ⌝ }
-{
-    let mut p = from;
-    while p < end {
-        if !chip::blank_at(chip, p) {
-            return false;
-        }
-        p += 1;
-    }
-    true
-}
-
-// Whether all blocks but h and the one after it are sealed.
-fn sealed_but(chip: &[u8], b: usize, h: usize) -> bool
-    requires { ⌜ (4 ≤ b) × (b ≤ mostBlocks) × (length (now chip) ≡ 4096 * b) × (h < b) ⌝ }
-    ensures { λ r. ⌜ r ≡ laterTest b (chipOf (now (chip .entry))) h ⌝ }
-{
-    let spare = log::block_after(h, 1, b);
-    let mut x = 0;
-    while x < b {
-        if (x != h) & (x != spare) & !sealed(chip, x) {
-            return false;
-        }
-        x += 1;
-    }
-    true
-}
-
-// Whether the chip is a ring with the head h.
-fn is_ring(chip: &[u8], b: usize, h: usize) -> bool
-    requires { ⌜ (4 ≤ b) × (b ≤ mostBlocks) × (length (now chip) ≡ 4096 * b) × (h < b) ⌝ }
-    ensures { λ r. ⌜ r ≡ ringTest b (chipOf (now (chip .entry))) h ⌝ }
-{
-    if sealed(chip, h) {
-        return false;
-    }
-    if sealed_but(chip, b, h) {
-        return true;
-    }
-    if !sealed_below(chip, h) {
-        return false;
-    }
-    blank_from(chip, 16 * h + 16, 16 * b)
-}
-
-// The next place of block h: after the last of its places that isn't blank.
-fn find_next(chip: &[u8], h: usize) -> usize
-    requires { ⌜ 4096 * h + 4096 ≤ length (now chip) ⌝ }
-    ensures within { λ r. ⌜ r ≤ 15 ⌝ }
-    ensures right { λ r. ⌜ r ≡ nextTo (chipOf (now (chip .entry))) h 15 ⌝ }
-{
-    let mut next = log::PLACES;
-    while 0 < next {
-        if !chip::blank_at(chip, 16 * h + next - 1) {
-            return next;
-        }
-        next -= 1;
-    }
-    0
-}
 
 // What page p says is replayed. Answers the number of keys.
 fn replay_page(chip: &[u8], index: &mut [u32], n: usize, p: usize) -> usize
@@ -126,42 +19,59 @@ fn replay_page(chip: &[u8], index: &mut [u32], n: usize, p: usize) -> usize
     ensures within { λ r. ⌜ r ≤ n + 1 ⌝ }
     ensures right { λ r. ⌜ Replays (now (chip .entry)) p (take n (now (index .entry))) (take r (now (index .exit))) ⌝ }
 {
-    match record::kind_at(chip, p) {
+    let page = chip::page_at(chip, p);
+    match record::kind_of(&page) {
         Kind::Value => {
-            let found = index::find(chip, index, n, record::key_at(chip, p));
+            let found = index::find(chip, index, n, record::key_on(&page));
             index::put_in(index, n, found, p as u32)
         }
         Kind::Note => {
-            let found = index::find(chip, index, n, record::key_at(chip, p));
+            let found = index::find(chip, index, n, record::key_on(&page));
             index::take_out(index, n, found)
         }
         Kind::Nothing => n,
     }
 }
 
-// The log, from the oldest block to the head, is replayed into the index.
-fn replay(chip: &[u8], index: &mut [u32], b: usize, h: usize) -> usize
+// What the places of block x say is replayed.
+fn replay_block(chip: &[u8], index: &mut [u32], n0: usize, x: usize) -> usize
+    requires { ⌜ (4096 * x + 4096 ≤ length (now chip)) × (x < mostBlocks) × (n0 + 15 ≤ length (now index)) ⌝ }
+    ensures within { λ r. ⌜ r ≤ n0 + 15 ⌝ }
+    ensures right { λ r. ⌜ ReplaysTo (now (chip .entry)) x 15 (take n0 (now (index .entry))) (take r (now (index .exit))) ⌝ }
+{
+    let mut n = n0;
+    let mut j = 0;
+    while j < log::PLACES {
+        n = replay_page(chip, index, n, 16 * x + j);
+        j += 1;
+    }
+    n
+}
+
+// The log, from where it begins to the head, is replayed into the index.
+fn replay(chip: &[u8], index: &mut [u32], b: usize, h: usize, begin: usize) -> usize
     requires { ⌜ (4 ≤ b) × (b ≤ mostBlocks) × (length (now chip) ≡ 4096 * b) × (h < b) × (16 * b ≤ length (now index)) ⌝ }
+    requires { ⌜ (0 < begin) × Begins b (chipOf (now chip)) h begin ⌝ }
     ensures within { λ r. ⌜ r ≤ 15 * (b - 1) ⌝ }
     ensures right { λ r. ⌜ take r (now (index .exit)) ≡ pages b (tableAt b (chipOf (now (chip .entry))) h) ⌝ }
 {
     let mut n = 0;
-    let mut s = log::PLACES * (h + 2);
-    let end = log::PLACES * (h + b + 1);
-    while s < end {
-        n = replay_page(chip, index, n, 16 * (s / 15 % b) + s % 15);
-        s += 1;
+    let mut k = begin;
+    while k <= b {
+        n = replay_block(chip, index, n, log::block_after(h, k, b));
+        k += 1;
     }
     n
 }
 
 // The area is made ready for the head h.
-fn make_ready(chip: &[u8], work: &mut [u32], b: usize, h: usize) -> Answer
+fn make_ready(chip: &[u8], work: &mut [u32], b: usize, h: usize, begin: usize) -> Answer
     requires { ⌜ Sized (now chip) (now work) × (b ≡ blocksOf (now chip)) × (h < b) × (getD (now work) 0 0 ≡ 0) ⌝ }
+    requires { ⌜ (0 < begin) × Begins b (chipOf (now chip)) h begin ⌝ }
     ensures { λ r. ⌜ Readies (now (chip .entry)) h (now (work .exit)) r ⌝ }
 {
-    let next = find_next(chip, h);
-    let n = replay(chip, &mut work[16..], b, h);
+    let next = ring::find_next(chip, h);
+    let n = replay(chip, &mut work[16..], b, h, begin);
     if log::room(b) < n {
         return Answer::Refused(8);
     }
@@ -182,9 +92,10 @@ pub fn start(chip: &[u8], work: &mut [u32], fuse: &u64) -> Answer
         return Answer::Refused(7);
     }
     work[0] = 0;
-    let h = find_head(chip, b);
-    if !is_ring(chip, b, h) {
+    let seals = ring::look_at_seals(chip, b);
+    let begin = ring::find_begin(chip, b, seals);
+    if begin == 0 {
         return Answer::Refused(8);
     }
-    make_ready(chip, work, b, h)
+    make_ready(chip, work, b, seals.head, begin)
 }

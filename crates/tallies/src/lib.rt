@@ -1,6 +1,4 @@
-// The store's calls with random keys, with power that stays, each answer counted; and a report of the counts.
-//
-// The report's rows are text, a row a line: the kind of chip or area, the slot of the first number, how many numbers, and the name.
+// The store's calls with random keys, with power that stays, each answer counted.
 use calls::PUT;
 use calls::START;
 ghost use Prim.Native.Nat.{_<_};
@@ -122,14 +120,19 @@ fn wide(b: u8) -> u64 {
     b as u64
 }
 
-// All keys are got; the values' lengths and first bytes go to the slot.
+// The key is got; the value's length and first byte go to the slot.
+fn read_key(chip: &[u8], work: &[u32], tally: &mut [u64; 512], kind: usize, slot: usize, key: u8) {
+    let mut buffer = [0u8; 96];
+    let n = get(chip, work, tally, kind, key, &mut buffer);
+    add(tally, kind, slot, n as u64);
+    add(tally, kind, slot, wide(buffer[0]));
+}
+
+// All keys are got.
 fn read_all(chip: &[u8], work: &[u32], tally: &mut [u64; 512], kind: usize, slot: usize) {
     let mut k: u8 = 97;
     while k < 121 {
-        let mut buffer = [0u8; 96];
-        let n = get(chip, work, tally, kind, k, &mut buffer);
-        add(tally, kind, slot, n as u64);
-        add(tally, kind, slot, wide(buffer[0]));
+        read_key(chip, work, tally, kind, slot, k);
         k += 1;
     }
 }
@@ -142,6 +145,13 @@ fn read_store(chip: &[u8], work: &[u32], tally: &mut [u64; 512], kind: usize, sl
     read_all(chip, work, tally, kind, slot + 1);
 }
 
+// The keys are counted, and read after another start.
+fn read_again(chip: &mut [u8], work: &mut [u32], tally: &mut [u64; 512], kind: usize) {
+    add_count(chip, work, tally, kind, 52);
+    start(chip, work, tally, kind, LATER);
+    read_store(chip, work, tally, kind, 53);
+}
+
 // A store that was started is read, changed and counted, started again and read again.
 pub fn use_store(
     chip: &mut [u8],
@@ -152,41 +162,5 @@ pub fn use_store(
 ) {
     read_store(chip, work, tally, kind, 50);
     change_often(chip, work, tally, kind, 16, x);
-    add_count(chip, work, tally, kind, 52);
-    start(chip, work, tally, kind, LATER);
-    read_store(chip, work, tally, kind, 53);
-}
-
-// ---- the report
-
-// So many numbers from there on.
-fn print_numbers(tally: &[u64; 512], from: usize, n: usize)
-    requires { ⌜ from < 512 ⌝ }
-{
-    let mut i = 0;
-    while i < n {
-        trying::text(b" ");
-        trying::number(tally[(from + i % 512) % 512]);
-        i += 1;
-    }
-    trying::text(b"\n");
-}
-
-// KIND SLOT N NAME, the name from column 8 on
-fn print_row(row: &[u8], tally: &[u64; 512]) {
-    if row.len() < 8 {
-        return;
-    }
-    let kind = (trying::numeral(row, 0) % 8) as usize;
-    let slot = (trying::numeral(row, 1) % 64) as usize;
-    trying::text(&row[8..]);
-    print_numbers(tally, 64 * kind + slot, trying::numeral(row, 2) as usize);
-}
-
-pub fn report(rows: &[u8], tally: &[u64; 512]) {
-    let mut at = 0;
-    while at < rows.len() {
-        print_row(trying::line(rows, at), tally);
-        at = trying::next(rows, at);
-    }
+    read_again(chip, work, tally, kind);
 }

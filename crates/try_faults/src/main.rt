@@ -2,7 +2,6 @@
 // of all ones, mixed, and forged: a block full of sound pages. For each: the page's first byte and its copy, the sums of the page's halves, what the page is,
 // what is left of the script, and how many bytes elsewhere changed.
 use record::Kind;
-use trying::number;
 use trying::text;
 ghost use mathlib.Core.Path.{_≡_};
 ghost use Prim.Native.Nat.{_+_, _*_, _≤_};
@@ -50,34 +49,34 @@ fn print_kind(kind: Kind) {
     }
 }
 
+// The sums of its halves, and what it is.
 fn print_sums(page: &[u8])
     requires { ⌜ length (now page) ≡ 256 ⌝ }
 {
-    text(b", sums ");
-    number(sum(&page[0..128]));
+    trying::entry(b", sums ", sum(&page[0..128]));
+    trying::entry(b" ", sum(&page[128..256]));
+    text_if(page::is_blank(page), b", blank");
+    text_if(page::is_sound(page), b", sound");
+}
+
+fn print_byte(b: u8) {
     text(b" ");
-    number(sum(&page[128..256]));
+    trying::byte(b);
 }
 
 fn print_page(chip: &[u8], p: usize)
     requires { ⌜ 256 * p + 256 ≤ length (now chip) ⌝ }
 {
-    let a = 256 * p;
-    text(b" ");
-    trying::byte(chip[a]);
-    text(b" ");
-    trying::byte(chip[a + 128]);
-    print_sums(&chip[a..a + 256]);
-    text_if(chip::blank_at(chip, p), b", blank");
-    text_if(page::is_sound(&chip[a..a + 256]), b", sound");
-    print_kind(record::kind_at(chip, p));
+    let page = chip::page_at(chip, p);
+    print_byte(page[0]);
+    print_byte(page[128]);
+    print_sums(&page);
+    print_kind(record::kind_of(&page));
 }
 
 fn print_end(fuse: u64, elsewhere: u64) {
-    text(b", left of the script ");
-    number(fuse);
-    text(b", changed elsewhere ");
-    number(elsewhere);
+    trying::entry(b", left of the script ", fuse);
+    trying::entry(b", changed elsewhere ", elsewhere);
     text(b"\n");
 }
 
@@ -102,6 +101,11 @@ fn set_up(chip: &mut [u8], noise: &[u8])
     put(chip, 17, b"other", &mut fuse, noise);
 }
 
+fn print_begin(name: &[u8], script: u64, which: usize) {
+    trying::entry(name, script);
+    print_noise(which);
+}
+
 // `before` is such a chip, to compare with.
 fn try_write(chip: &mut [u8], before: &[u8], noise: &[u8], script: u64, which: usize)
     requires { ⌜ (length (now chip) ≡ 8192) × (length (now before) ≡ 8192) × (length (now noise) ≡ 4096) ⌝ }
@@ -109,9 +113,7 @@ fn try_write(chip: &mut [u8], before: &[u8], noise: &[u8], script: u64, which: u
     set_up(chip, noise);
     let mut fuse = script;
     put(chip, 2, b"new", &mut fuse, noise);
-    text(b"write, script ");
-    number(script);
-    print_noise(which);
+    print_begin(b"write, script ", script, which);
     print_page(chip, 2);
     print_end(fuse, trying::changed(before, chip, 512, 768));
 }
@@ -122,35 +124,30 @@ fn try_erase(chip: &mut [u8], before: &[u8], noise: &[u8], script: u64, which: u
     set_up(chip, noise);
     let mut fuse = script;
     chip::erase(chip, 0, &mut fuse, noise);
-    text(b"erase, script ");
-    number(script);
-    print_noise(which);
+    print_begin(b"erase, script ", script, which);
     print_page(chip, 1);
     print_end(fuse, trying::changed(before, chip, 0, 4096));
 }
 
-// Both, under each script, with one noise.
-fn try_noise(chip: &mut [u8], before: &[u8], noise: &[u8], which: usize)
-    requires { ⌜ (length (now chip) ≡ 8192) × (length (now before) ≡ 8192) × (length (now noise) ≡ 4096) ⌝ }
-{
-    let mut script: u64 = 0;
-    while script < 3 {
-        try_write(chip, before, noise, script, which);
-        try_erase(chip, before, noise, script, which);
-        script += 1;
-    }
-}
-
-fn try_all(chip: &mut [u8], before: &mut [u8], noise: &mut [u8])
+// Both, under one script, with one noise.
+fn try_both(chip: &mut [u8], before: &[u8], noise: &mut [u8], script: u64, which: usize)
     requires { ⌜ (length (now chip) ≡ 8192) × (length (now before) ≡ 8192) × (length (now noise) ≡ 4096) ⌝ }
 {
     let forged = record::encode(false, b"key", b"forged");
+    trying::make_noise(which, &forged, noise);
+    try_write(chip, before, noise, script, which);
+    try_erase(chip, before, noise, script, which);
+}
+
+// Under each script, with each noise.
+fn try_all(chip: &mut [u8], before: &mut [u8], noise: &mut [u8])
+    requires { ⌜ (length (now chip) ≡ 8192) × (length (now before) ≡ 8192) × (length (now noise) ≡ 4096) ⌝ }
+{
     set_up(before, noise);
-    let mut which = 0;
-    while which < 4 {
-        trying::make_noise(which, &forged, noise);
-        try_noise(chip, before, noise, which);
-        which += 1;
+    let mut i: u64 = 0;
+    while i < 12 {
+        try_both(chip, before, noise, i % 3, (i / 3) as usize);
+        i += 1;
     }
 }
 

@@ -32,90 +32,62 @@ fn ends_right(
     requires { ⌜ from ≤ length (now script) ⌝ }
 {
     let found = cutting::survive(script, from, n, chip, work, noise, LONG);
-    if found.map < script.len() {
-        return false;
-    }
-    if cutting::make(b"start", chip, work, noise) != 0 {
-        return false;
-    }
-    cutting::holds(script, script.len(), chip, work)
+    cutting::ended(script, chip, work, noise) & (found.map == script.len())
 }
 
-// The outcome of a cut of call i, after which the map of that place was found and the history ended right or not.
-fn outcome(right: bool, place: usize, i: usize) -> usize
+// What was found after the first cut, and after the last; whether the history then ended right. What is found in the end is the map of before, or the one after
+// the call that was cut.
+fn outcome(end: usize, first: Found, last: Found, right: bool) -> usize
     ensures { λ r. ⌜ r < 4 ⌝ }
 {
+    if (first.map == 0) | (last.map < first.map) {
+        return WRONG;
+    }
+    if (first.call < last.call) | (end <= last.call) {
+        return UNCUT;
+    }
     if !right {
         return WRONG;
     }
-    if place == i { BEFORE } else { AFTER }
+    if last.map == last.call { BEFORE } else { AFTER }
 }
 
-// After the first cut and a start: the call is made again, with the power going at its operation s. What is found then is the map of before, or the one after
-// the call.
-fn cut_again(
-    script: &[u8],
-    found: Found,
-    chip: &mut [u8],
-    work: &mut [u32],
-    noise: &[u8; 4096],
-    s: u64,
-) -> usize
-    requires { ⌜ found .call ≤ length (now script) ⌝ }
-    ensures { λ r. ⌜ r < 4 ⌝ }
-{
-    let i = found.call;
-    let n = found.map;
-    let again = cutting::survive(script, i, n, chip, work, noise, s);
-    let m = again.map;
-    if (m == 0) | (m < n) {
-        return WRONG;
-    }
-    if i < again.call {
-        return UNCUT;
-    }
-    outcome(ends_right(script, i, m, chip, work, noise), m, i)
-}
-
-// The history on a blank chip, with the power going at operation t, and then, where s isn't 0, at operation s of the call made again.
-fn cut(
-    script: &[u8],
-    chip: &mut [u8],
-    work: &mut [u32],
-    first: &[u8; 4096],
-    second: &[u8; 4096],
-    t: u64,
-    s: u64,
-) -> usize
-    ensures { λ r. ⌜ r < 4 ⌝ }
-{
-    let found = cutting::survive(script, 0, 0, chip, work, first, t);
-    let i = found.call;
-    let n = found.map;
-    if n == 0 {
-        return WRONG;
-    }
-    if script.len() <= i {
-        return UNCUT;
-    }
-    if s == 0 {
-        return outcome(ends_right(script, n, n, chip, work, first), n, i);
-    }
-    cut_again(script, found, chip, work, second, s)
-}
-
-// ---- every cut
-
-// The history on a blank chip: the power goes at operation v where t is 0; and else at operation t, and at operation v of the call made again.
-fn cut_blank(script: &[u8], first: &[u8; 4096], second: &[u8; 4096], t: u64, v: u64) -> usize
+// The history on a blank chip, with the power going at operation t.
+fn cut_once(script: &[u8], noise: &[u8; 4096], t: u64) -> usize
     ensures { λ r. ⌜ r < 4 ⌝ }
 {
     let mut chip = [255u8; 16384];
     let mut work = [0u32; 80];
+    let found = cutting::survive(script, 0, 0, &mut chip, &mut work, noise, t);
+    let n = found.map;
+    let right = ends_right(script, n, n, &mut chip, &mut work, noise);
+    outcome(script.len(), found, found, right)
+}
+
+// The same; after a start the call is made again, with the power going at its operation s.
+fn cut_twice(script: &[u8], first: &[u8; 4096], second: &[u8; 4096], t: u64, s: u64) -> usize
+    ensures { λ r. ⌜ r < 4 ⌝ }
+{
+    let mut chip = [255u8; 16384];
+    let mut work = [0u32; 80];
+    let found = cutting::survive(script, 0, 0, &mut chip, &mut work, first, t);
+    let i = found.call;
+    let again = cutting::survive(script, i, found.map, &mut chip, &mut work, second, s);
+    let right = ends_right(script, i, again.map, &mut chip, &mut work, second);
+    outcome(script.len(), found, again, right)
+}
+
+// ---- every cut
+
+// The power goes at operation v where t is 0; and else at operation t, and at operation v of the call made again.
+fn cut(script: &[u8], first: &[u8; 4096], second: &[u8; 4096], t: u64, v: u64) -> usize
+    ensures { λ r. ⌜ r < 4 ⌝ }
+{
     if t == 0 {
-        return cut(script, &mut chip, &mut work, first, second, v, 0);
+        cut_once(script, first, v)
+    } else {
+        cut_twice(script, first, second, t, v)
     }
-    cut(script, &mut chip, &mut work, first, second, t, v)
 }
 
 // One more with this outcome.
@@ -129,7 +101,7 @@ fn add(tally: &mut [u64; 4], o: usize)
 fn every_cut(script: &[u8], first: &[u8; 4096], second: &[u8; 4096], t: u64, tally: &mut [u64; 4]) {
     let mut v: u64 = 1;
     while v < LONG {
-        let o = cut_blank(script, first, second, t, v);
+        let o = cut(script, first, second, t, v);
         if o == UNCUT {
             return;
         }
@@ -139,10 +111,17 @@ fn every_cut(script: &[u8], first: &[u8; 4096], second: &[u8; 4096], t: u64, tal
     add(tally, WRONG);
 }
 
-// Every second cut after every first one.
-fn every_second(script: &[u8], first: &[u8; 4096], second: &[u8; 4096], tally: &mut [u64; 4]) {
-    let mut t: u64 = 1;
-    while t < 300 {
+// The same for each t of a range.
+fn every_first(
+    script: &[u8],
+    first: &[u8; 4096],
+    second: &[u8; 4096],
+    from: u64,
+    to: u64,
+    tally: &mut [u64; 4],
+) {
+    let mut t = from;
+    while t < to {
         every_cut(script, first, second, t, tally);
         t += 1;
     }
@@ -160,38 +139,32 @@ fn print_noise(before: &[u8], which: usize) {
 
 // How many cuts went so.
 fn print_tally(tally: &[u64; 4]) {
-    trying::text(b": as before the call ");
-    trying::number(tally[BEFORE]);
-    trying::text(b", as after it ");
-    trying::number(tally[AFTER]);
-    trying::text(b", wrong ");
-    trying::number(tally[WRONG]);
+    trying::entry(b": as before the call ", tally[BEFORE]);
+    trying::entry(b", as after it ", tally[AFTER]);
+    trying::entry(b", wrong ", tally[WRONG]);
     trying::text(b"\n");
 }
 
-// Every cut with one noise; or, where again isn't 0, every second cut with noise again - 1 after it.
-fn try_cuts(script: &[u8], first: &[u8; 4096], second: &[u8; 4096], again: usize) {
+// Every cut, with these noises.
+fn try_cuts(script: &[u8], which: usize, then: usize, from: u64, to: u64) {
+    let mut first = [0u8; 4096];
+    calls::make_noise(which, &mut first);
+    let mut second = [0u8; 4096];
+    calls::make_noise(then, &mut second);
     let mut tally = [0u64; 4];
-    if again == 0 {
-        every_cut(script, first, second, 0, &mut tally);
-    } else {
-        every_second(script, first, second, &mut tally);
-    }
+    every_first(script, &first, &second, from, to, &mut tally);
     print_tally(&tally);
 }
 
-// The same, with these noises. The page that is forged or kept is the one of "put a 2".
+// Every cut with one noise; or, where again isn't 0, every second cut with noise again - 1 after every first one.
 fn try_noises(script: &[u8], which: usize, again: usize) {
-    let page = record::encode(false, b"a", b"2");
-    let mut first = [0u8; 4096];
-    let mut second = [0u8; 4096];
-    trying::make_noise(which, &page, &mut first);
     print_noise(b"noise ", which);
-    if again != 0 {
-        trying::make_noise(again - 1, &page, &mut second);
-        print_noise(b", then ", again - 1);
+    if again == 0 {
+        try_cuts(script, which, which, 0, 1);
+        return;
     }
-    try_cuts(script, &first, &second, again);
+    print_noise(b", then ", again - 1);
+    try_cuts(script, which, again - 1, 1, 300);
 }
 
 // Every noise; then every two noises.

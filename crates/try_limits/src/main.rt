@@ -15,13 +15,12 @@
 //
 // In a key or a value `v*97` stands for 97 times v, and `%7f` for the byte 0x7F.
 use libc::STDIN_FILENO;
+use trying::LONGEST;
 ghost use Prim.Native.Nat.{_≤_, _<_};
 ghost use lib.ListN.{length};
+ghost use Rattle.io.specs.Counts.{Counts};
 
 // ---- what a line is answered
-
-// The most bytes of a key or a value in a script.
-const LONGEST: usize = 128;
 
 // The answer of a call that answers no number.
 fn say(k: u32) {
@@ -61,8 +60,8 @@ fn tell_line(which: usize, line: &[u8], chip: &[u8], work: &[u32], fuse: &u64) {
         tell(calls::refusal(answer), calls::amount(answer));
         return;
     }
-    let mut buffer = [0u8; LONGEST];
-    let n = trying::dots(line, 2, &mut buffer);
+    let mut buffer = [b'.'; LONGEST];
+    let n = io::count(trying::numeral(line, 2) as isize, &buffer);
     tell_get(line, chip, work, fuse, &mut buffer[..n]);
 }
 
@@ -70,19 +69,27 @@ fn tell_line(which: usize, line: &[u8], chip: &[u8], work: &[u32], fuse: &u64) {
 
 // A line with a call.
 fn play_call(line: &[u8], chip: &mut [u8], work: &mut [u32], fuse: &mut u64, noise: &[u8; 4096]) {
-    let which = trying::verb(b"get count", line);
+    let which = trying::verb(b"get count fuse noise #", line);
     if which < 2 {
         tell_line(which, line, chip, work, fuse);
         return;
     }
-    say(calls::refusal(calls::make(line, chip, work, fuse, noise)));
+    if which == 16 {
+        say(calls::refusal(calls::make(line, chip, work, fuse, noise)));
+    }
 }
 
-// noise NAME
-fn set_noise(line: &[u8], noise: &mut [u8; 4096]) {
-    let page = record::encode(false, b"a", b"2");
-    let which = trying::verb(b"zeros ones mixed forged kept", trying::word(line, 1));
-    trying::make_noise(which, &page, noise);
+// fuse N, noise NAME
+fn set(line: &[u8], fuse: &mut u64, noise: &mut [u8; 4096]) {
+    let which = trying::verb(b"fuse noise", line);
+    if which == 0 {
+        *fuse = trying::numeral(line, 1);
+        return;
+    }
+    if which == 1 {
+        let name = trying::word(line, 1);
+        calls::make_noise(trying::verb(b"zeros ones mixed forged kept", name), noise);
+    }
 }
 
 // One line, and what it is answered.
@@ -94,40 +101,38 @@ fn play_line(
     noise: &mut [u8; 4096],
 ) {
     trying::text(line);
-    let which = trying::verb(b"fuse noise # lend", line);
-    if which == 0 {
-        *fuse = trying::numeral(line, 1);
-        return;
-    }
-    if which == 1 {
-        set_noise(line, noise);
-        return;
-    }
-    if which == 16 {
-        play_call(line, chip, work, fuse, noise);
-    }
+    set(line, fuse, noise);
+    play_call(line, chip, work, fuse, noise);
+    trying::text(b"\n");
 }
 
 // The lines from there on, up to the next chip that is lent. Answers where that is.
 fn play_on(script: &[u8], from: usize, chip: &mut [u8], work: &mut [u32]) -> usize
-    requires { ⌜ from < length (now script) ⌝ }
-    ensures { λ r. ⌜ (from < r) × (r ≤ length (now (script .entry))) ⌝ }
+    requires { ⌜ from ≤ length (now script) ⌝ }
+    ensures { λ r. ⌜ (from ≤ r) × (r ≤ length (now (script .entry))) ⌝ }
 {
     let mut fuse: u64 = 1000000000;
     let mut noise = [0u8; 4096];
     let mut at = from;
     while at < script.len() {
         let line = trying::line(script, at);
-        if from < at {
-            if trying::verb(b"lend", line) == 0 {
-                return at;
-            }
+        if trying::verb(b"lend", line) == 0 {
+            break;
         }
         play_line(line, chip, work, &mut fuse, &mut noise);
-        trying::text(b"\n");
         at = trying::next(script, at);
     }
     at
+}
+
+// So many words, or all.
+fn count(n: u64, work: &[u32]) -> usize
+    ensures { λ r. ⌜ Counts r (now (work .entry)) ⌝ }
+{
+    if n < work.len() as u64 {
+        return n as usize;
+    }
+    work.len()
 }
 
 // lend N BYTE M: at most five blocks and 96 words
@@ -136,12 +141,18 @@ fn play_lent(script: &[u8], from: usize) -> usize
     ensures { λ r. ⌜ (from < r) × (r ≤ length (now (script .entry))) ⌝ }
 {
     let line = trying::line(script, from);
-    let bytes = (trying::numeral(line, 1) % 20481) as usize;
-    let b = (trying::numeral(line, 2) % 256) as u8;
-    let words = (trying::numeral(line, 3) % 97) as usize;
-    let mut chip = [b; 20480];
+    trying::text(line);
+    trying::text(b"\n");
+    let mut chip = [(trying::numeral(line, 2) % 256) as u8; 20480];
     let mut work = [0u32; 96];
-    play_on(script, from, &mut chip[..bytes], &mut work[..words])
+    let n = io::count(trying::numeral(line, 1) as isize, &chip);
+    let m = count(trying::numeral(line, 3), &work);
+    play_on(
+        script,
+        trying::next(script, from),
+        &mut chip[..n],
+        &mut work[..m],
+    )
 }
 
 // Plays the script, from chip to chip.

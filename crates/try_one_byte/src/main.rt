@@ -19,23 +19,21 @@ fn print_pair(x: u8, y: u8) {
     text(b"\n");
 }
 
+// The noise's bits 1 to 7 go to the payload, and its bit 0 to the copy, whose one 0 bit that is.
+fn try_noise(noise: u8) {
+    let x = 0x01 | noise;
+    let y = 0xFE | noise;
+    if sound_pair(x, y) {
+        print_pair(x, y);
+    }
+}
+
 fn main() {
     let mut pairs: u64 = 0;
-    let mut noise: u8 = 0;
-    loop {
-        // the noise's bits 1 to 7 go to the payload, and its bit 0 to the copy, whose one 0 bit that is
-        let x = 0x01 | noise;
-        let y = 0xFE | noise;
-        if sound_pair(x, y) {
-            print_pair(x, y);
-        }
+    while pairs < 256 {
+        try_noise(pairs as u8);
         pairs += 1;
-        if noise == 255 {
-            break;
-        }
-        noise += 1;
     }
-    text(b"pairs tried: ");
-    trying::number(pairs);
+    trying::entry(b"pairs tried: ", pairs);
     text(b"\n");
 }

@@ -6,16 +6,20 @@ ghost use mathlib.Core.Path.{_≡_};
 ghost use Prim.Native.Nat.{_+_, _*_, _≤_};
 ghost use lib.ListN.{length};
 
+fn print_byte(b: u8, last: bool) {
+    trying::byte(b);
+    if last {
+        text(b"\n");
+    } else {
+        text(b" ");
+    }
+}
+
 // 32 bytes to a line.
 fn print_bytes(s: &[u8]) {
     let mut i = 0;
     while i < s.len() {
-        trying::byte(s[i]);
-        if i % 32 == 31 {
-            text(b"\n");
-        } else {
-            text(b" ");
-        }
+        print_byte(s[i], i % 32 == 31);
         i += 1;
     }
 }
@@ -31,13 +35,14 @@ fn print_kind(kind: Kind) {
 fn print_page(chip: &[u8], p: usize)
     requires { ⌜ 256 * p + 256 ≤ length (now chip) ⌝ }
 {
-    print_kind(record::kind_at(chip, p));
-    text(record::key_at(chip, p));
+    let page = chip::page_at(chip, p);
+    print_kind(record::kind_of(&page));
+    text(record::key_on(&page));
     text(b"', value '");
-    text(record::value_at(chip, p));
+    let n = record::value_length(&page);
+    text(&page[32..32 + n]);
     text(b"'\n");
-    let a = 256 * p;
-    print_bytes(&chip[a..a + 256]);
+    print_bytes(&page);
 }
 
 // Writes a page where the chip is blank.

@@ -5,7 +5,7 @@ use calls::DELETE;
 use calls::FORMAT;
 use calls::PUT;
 use libc::STDIN_FILENO;
-ghost use Prim.Native.Nat.{_≤_, _<_};
+ghost use Prim.Native.Nat.{_<_};
 
 // How many chips, and how many work areas, are tried.
 const CHIPS: usize = 800;
@@ -28,45 +28,11 @@ fn try_chip(
     }
 }
 
-fn try_chips(chip: &mut [u8; 16384], work: &mut [u32; 80], tally: &mut [u64; 512], x: &mut u64) {
-    let mut i = 0;
-    while i < CHIPS {
-        try_chip(chip, work, tally, i % 4, x);
-        i += 1;
-    }
-}
-
 // ---- part 2
-
-fn copy(from: &[u8; 16384], to: &mut [u8; 16384]) {
-    let mut i = 0;
-    while i < 16384 {
-        to[i] = from[i];
-        i += 1;
-    }
-}
-
-// 1 if the bytes differ.
-fn unlike(x: u8, y: u8) -> u64
-    ensures { λ r. ⌜ r ≤ 1 ⌝ }
-{
-    if x == y { 0 } else { 1 }
-}
-
-// How many bytes two chips differ in.
-fn changed(before: &[u8; 16384], after: &[u8; 16384]) -> u64 {
-    let mut n: u64 = 0;
-    let mut i = 0;
-    while i < 16384 {
-        n = n % 1000000 + unlike(before[i], after[i]);
-        i += 1;
-    }
-    n
-}
 
 // The bytes that a put or a delete changed. Refused with anything but 7 and 8, it must have changed none.
 fn judge(before: &[u8; 16384], chip: &[u8; 16384], tally: &mut [u64; 512], kind: usize, k: u32) {
-    let n = changed(before, chip);
+    let n = trying::changed(before, chip, 0, 0);
     tallies::add(tally, kind, 50, n);
     if (k != 0) & (k != 7) & (k != 8) & (n != 0) {
         tallies::add(tally, 7, 1, 1);
@@ -83,8 +49,7 @@ fn try_change(
 )
     requires { ⌜ which < 2 ⌝ }
 {
-    let mut before = [0u8; 16384];
-    copy(chip, &mut before);
+    let before = *chip;
     let k = tallies::change(which, chip, work, tally, kind, x);
     judge(&before, chip, tally, kind, k);
 }
@@ -114,6 +79,13 @@ fn make_store(chip: &mut [u8; 16384], work: &mut [u32; 80], tally: &mut [u64; 51
     tallies::change_often(chip, work, tally, 4, 2 * times, x);
 }
 
+// Get and count on an area that was overwritten.
+fn try_reads(chip: &[u8], work: &[u32], tally: &mut [u64; 512], kind: usize, x: &mut u64) {
+    try_get(chip, work, tally, kind, x);
+    try_count(chip, work, tally, kind);
+    tallies::add(tally, 7, 0, 4);
+}
+
 // The four calls on an area that was overwritten.
 fn try_calls(
     chip: &mut [u8; 16384],
@@ -124,9 +96,7 @@ fn try_calls(
 ) {
     try_change(PUT, chip, work, tally, kind, x);
     try_change(DELETE, chip, work, tally, kind, x);
-    try_get(chip, work, tally, kind, x);
-    try_count(chip, work, tally, kind);
-    tallies::add(tally, 7, 0, 4);
+    try_reads(chip, work, tally, kind, x);
 }
 
 // How a work area is overwritten: below which limit its index is; 0: the index stays.
@@ -140,13 +110,32 @@ fn limit_of(style: usize) -> u32 {
 }
 
 // Tame areas are tallied as kind 5, others as 6.
-fn try_areas(chip: &mut [u8; 16384], work: &mut [u32; 80], tally: &mut [u64; 512], x: &mut u64) {
-    let mut i = 0;
-    while i < AREAS {
-        make_store(chip, work, tally, x);
-        chance::scramble(work, i % 2 == 0, limit_of(i / 2 % 4), x);
-        try_calls(chip, work, tally, 5 + i % 2, x);
-        i += 1;
+fn try_area(
+    chip: &mut [u8; 16384],
+    work: &mut [u32; 80],
+    tally: &mut [u64; 512],
+    i: usize,
+    x: &mut u64,
+) {
+    make_store(chip, work, tally, x);
+    chance::scramble(work, i % 2 == 0, limit_of(i / 2 % 4), x);
+    try_calls(chip, work, tally, 5 + i % 2, x);
+}
+
+// ---- both parts
+
+// First the chips, and then the areas.
+fn try_one(
+    chip: &mut [u8; 16384],
+    work: &mut [u32; 80],
+    tally: &mut [u64; 512],
+    i: usize,
+    x: &mut u64,
+) {
+    if i < CHIPS {
+        try_chip(chip, work, tally, i % 4, x);
+    } else {
+        try_area(chip, work, tally, i - CHIPS, x);
     }
 }
 
@@ -154,8 +143,11 @@ fn try_all(tally: &mut [u64; 512]) {
     let mut chip = [255u8; 16384];
     let mut work = [0u32; 80];
     let mut x: u64 = 1;
-    try_chips(&mut chip, &mut work, tally, &mut x);
-    try_areas(&mut chip, &mut work, tally, &mut x);
+    let mut i = 0;
+    while i < CHIPS + AREAS {
+        try_one(&mut chip, &mut work, tally, i, &mut x);
+        i += 1;
+    }
 }
 
 fn main() {
@@ -163,5 +155,5 @@ fn main() {
     try_all(&mut tally);
     let mut rows = io::large_buffer();
     let n = io::read_full(STDIN_FILENO, &mut rows);
-    tallies::report(&rows[..n], &tally);
+    trying::report(&rows[..n], &tally);
 }

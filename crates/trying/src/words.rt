@@ -3,19 +3,15 @@ ghost use Prim.Native.Nat.{_≤_, _<_};
 ghost use lib.ListN.{length};
 ghost use Rattle.io.specs.Counts.{Counts};
 
+// The most bytes of a key or a value in a script.
+pub const LONGEST: usize = 128;
+
 // The index of the first such byte from this one on; the length where there is none.
 fn seek(s: &[u8], from: usize, b: u8) -> usize
     requires { ⌜ from ≤ length (now s) ⌝ }
     ensures { λ r. ⌜ (from ≤ r) × (r ≤ length (now (s .entry))) ⌝ }
 {
-    let mut i = from;
-    while i < s.len() {
-        if s[i] == b {
-            return i;
-        }
-        i += 1;
-    }
-    i
+    bytes::scan::find(s, from, s.len(), b)
 }
 
 // Where the next line begins.
@@ -70,26 +66,11 @@ pub fn word(line: &[u8], k: usize) -> &[u8] {
     &line[from..to]
 }
 
-// Whether the two have the same bytes.
-pub fn same(a: &[u8], b: &[u8]) -> bool {
-    if a.len() != b.len() {
-        return false;
-    }
-    let mut i = 0;
-    while i < a.len() {
-        if a[i] != b[i] {
-            return false;
-        }
-        i += 1;
-    }
-    true
-}
-
 // Which word of the line it is; 16 for none of the first sixteen.
 fn place(line: &[u8], one: &[u8]) -> usize {
     let mut k = 0;
     while k < 16 {
-        if same(word(line, k), one) {
+        if check::same(word(line, k), one) {
             return k;
         }
         k += 1;
@@ -117,31 +98,13 @@ fn decimal(s: &[u8]) -> u64
     n
 }
 
-// All elements become this byte.
-fn fill(out: &mut [u8], b: u8) {
-    let mut i = 0;
-    while i < out.len() {
-        out[i] = b;
-        i += 1;
-    }
-}
-
-// The lesser one.
-fn least(n: u64, most: usize) -> usize
-    ensures { λ r. ⌜ r ≤ most ⌝ }
-{
-    if n < most as u64 {
-        return n as usize;
-    }
-    most
-}
-
 // The byte this many times, or as often as it fits.
-fn repeat(b: u8, n: u64, out: &mut [u8]) -> usize
+fn repeat(b: u8, n: u64, out: &mut [u8; LONGEST]) -> usize
+    requires { ⌜ n < 1000000000 ⌝ }
     ensures { λ r. ⌜ Counts r (now (out .exit)) ⌝ }
 {
-    fill(out, b);
-    least(n, out.len())
+    *out = [b; LONGEST];
+    io::count(n as isize, out)
 }
 
 // A hexadecimal digit's number; something for any other byte.
@@ -182,24 +145,24 @@ fn past(s: &[u8], i: usize) -> usize
 }
 
 // The word's bytes, as many as fit.
-fn copy(s: &[u8], out: &mut [u8]) -> usize
+fn copy(s: &[u8], out: &mut [u8; LONGEST]) -> usize
     ensures { λ r. ⌜ Counts r (now (out .exit)) ⌝ }
 {
     let mut i = 0;
     let mut n = 0;
-    while i < s.len() {
-        if n == out.len() {
-            return n;
+    while n < LONGEST {
+        if s.len() <= i {
+            break;
         }
         out[n] = byte_at(s, i);
         i = past(s, i);
         n += 1;
     }
-    n
+    io::count(n as isize, out)
 }
 
 // What a word stands for. Answers its length.
-fn spell(s: &[u8], out: &mut [u8]) -> usize
+fn spell(s: &[u8], out: &mut [u8; LONGEST]) -> usize
     ensures { λ r. ⌜ Counts r (now (out .exit)) ⌝ }
 {
     if s.len() < 3 {
@@ -226,15 +189,8 @@ pub fn numeral(line: &[u8], k: usize) -> u64
 }
 
 // The key or the value that is word k: `v*97` is 97 times v, `%7f` the byte 0x7F, and any other byte itself. Answers its length.
-pub fn bytes(line: &[u8], k: usize, out: &mut [u8]) -> usize
+pub fn bytes(line: &[u8], k: usize, out: &mut [u8; LONGEST]) -> usize
     ensures { λ r. ⌜ Counts r (now (out .exit)) ⌝ }
 {
     spell(word(line, k), out)
-}
-
-// As many dots as word k says, for a buffer.
-pub fn dots(line: &[u8], k: usize, out: &mut [u8]) -> usize
-    ensures { λ r. ⌜ Counts r (now (out .exit)) ⌝ }
-{
-    repeat(b'.', numeral(line, k), out)
 }

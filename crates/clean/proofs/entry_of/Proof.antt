@@ -1,6 +1,7 @@
 -- `clean::entry_of` meets its contract. Assumes nothing.
-use mathlib.Core.Path.{sym, _∙_, subst}
+use mathlib.Core.Path.{sym, ap, _∙_, subst}
 use native.Mathlib.Omega.{arith}
+use Rattle.record.specs.Record.{keyOn}
 use Rattle.index.specs.Answers.{Within}
 use Rattle.index.specs.declared.Found.{Found}
 use Rattle.clean.proofs.Judge.{judge-missing, judge-here, judge-elsewhere}
@@ -9,21 +10,21 @@ use Rattle.clean.proofs.entry_of.Statement.{statement}
 use Rattle.clean.proofs.entry_of.Tie as tie
 
 mul-word : tie.Need-mul-word
-mul-word c = let l = subst (λ (r : Found). Within (c .before .before .before .before .before .before .before .args .n) r) (c .before .j .given .1) (c .before .before .before .find .ensures .0) in search needs
+mul-word c = let l = subst (λ (r : Found). Within (c .before .before .before .before .before .before .before .before .args .n) r) (c .before .j .given .1) (c .before .before .before .find .ensures .0) in search needs
 
 shared-slice-read-word : tie.Need-shared-slice-read-word
-shared-slice-read-word c = let l = subst (λ (r : Found). Within (c .before .before .before .before .before .before .before .before .args .n) r) (c .before .before .j .given .1) (c .before .before .before .before .find .ensures .0) in omega arith
+shared-slice-read-word c = let l = subst (λ (r : Found). Within (c .before .before .before .before .before .before .before .before .before .args .n) r) (c .before .before .j .given .1) (c .before .before .before .before .find .ensures .0) in omega arith
 
 returns : tie.Need-returns
-returns c = let w = subst (λ (r : Found). Within (c .before .before .before .before .before .before .before .before .before .before .args .n) r) (c .before .before .before .before .j .given .1) (c .before .before .before .before .before .before .find .ensures .0) in
-    (w, judge-here _ _ _ _ (c .before .before .before .before .before .before .before .before .before .before .pre .1) _ (c .before .before .before .before .before .before .before .key-at .ensures) _ (c .before .before .before .before .before .before .find .ensures .1) _ (c .before .before .before .before .j .given .1) w (sym (c .before .word .ensures) ∙ omega arith))
+returns c = let w = subst (λ (r : Found). Within (c .before .before .before .before .before .before .before .before .before .before .before .args .n) r) (c .before .before .before .before .j .given .1) (c .before .before .before .before .before .before .find .ensures .0) in
+    (w, judge-here _ _ _ _ (c .before .before .before .before .before .before .before .before .before .before .before .pre .1) _ (c .before .before .before .before .before .before .before .key-on .ensures ∙ ap keyOn (c .before .before .before .before .before .before .before .before .before .before .before .pre .0 .2)) _ (c .before .before .before .before .before .before .find .ensures .1) _ (c .before .before .before .before .j .given .1) w (sym (c .before .word .ensures) ∙ omega arith))
 
 returns-2 : tie.Need-returns-2
-returns-2 c = let w = subst (λ (r : Found). Within (c .before .before .before .before .before .before .before .before .before .before .args .n) r) (c .before .before .before .before .j .given .1) (c .before .before .before .before .before .before .find .ensures .0) in
-    (tt, judge-elsewhere _ _ _ _ (c .before .before .before .before .before .before .before .before .before .before .pre .1) _ (c .before .before .before .before .before .before .before .key-at .ensures) _ (c .before .before .before .before .before .before .find .ensures .1) _ (c .before .before .before .before .j .given .1) w (λ e. omega (arith, c .before .word .ensures, e)))
+returns-2 c = let w = subst (λ (r : Found). Within (c .before .before .before .before .before .before .before .before .before .before .before .args .n) r) (c .before .before .before .before .j .given .1) (c .before .before .before .before .before .before .find .ensures .0) in
+    (tt, judge-elsewhere _ _ _ _ (c .before .before .before .before .before .before .before .before .before .before .before .pre .1) _ (c .before .before .before .before .before .before .before .key-on .ensures ∙ ap keyOn (c .before .before .before .before .before .before .before .before .before .before .before .pre .0 .2)) _ (c .before .before .before .before .before .before .find .ensures .1) _ (c .before .before .before .before .j .given .1) w (λ e. omega (arith, c .before .word .ensures, e)))
 
 returns-3 : tie.Need-returns-3
-returns-3 c = (tt, judge-missing _ _ _ _ (c .before .before .before .before .before .before .pre .1) _ (c .before .before .before .key-at .ensures) _ (c .before .before .find .ensures .1) _ (c .enum-told .given .1))
+returns-3 c = (tt, judge-missing _ _ _ _ (c .before .before .before .before .before .before .before .pre .1) _ (c .before .before .before .key-on .ensures ∙ ap keyOn (c .before .before .before .before .before .before .before .pre .0 .2)) _ (c .before .before .find .ensures .1) _ (c .enum-told .given .1))
 
 pub entry-of-spec : {M : Type 1} → statement M
 entry-of-spec =

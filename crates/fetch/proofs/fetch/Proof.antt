@@ -22,10 +22,10 @@ returns c = let a = c .before .before .before .before .before .before .before .b
 )
 
 returns-2 : tie.Need-returns-2
-returns-2 c = let a = c .before .before .before .before .before .before .before .before .before .before .before .before .before .before .before .before .args in (
-  c .before .before .hand-out .ensures .0,
-  fetches-value (a .chip .now) (a .index .now) (a .n) (a .key .now) _ (c .before .before .before .before .before .before .before .before .before .before .before .find .ensures .0) (c .before .before .before .before .before .before .before .before .before .before .before .find .ensures .1)
-      _ (c .before .before .before .before .before .before .word .result) (c .before .before .before .before .before .before .before .before .before .i .given .1) (omega (arith, c .before .before .before .before .before .before .word .ensures)) _ _ _ _ (c .before .before .before .before .value-at .ensures) (c .before .before .hand-out .ensures .1),
+returns-2 c = let a = c .before .before .before .before .before .before .before .before .before .before .before .before .before .before .before .args in (
+  c .before .before .hand-value .ensures .0,
+  fetches-value (a .chip .now) (a .index .now) (a .n) (a .key .now) _ (c .before .before .before .before .before .before .before .before .before .before .find .ensures .0) (c .before .before .before .before .before .before .before .before .before .before .find .ensures .1)
+      _ (c .before .before .before .before .before .word .result) (c .before .before .before .before .before .before .before .before .i .given .1) (omega (arith, c .before .before .before .before .before .word .ensures)) _ _ _ (c .before .before .hand-value .ensures .1),
 )
 
 returns-3 : tie.Need-returns-3
@@ -45,7 +45,6 @@ fetch-spec =
     shared-slice-read-word
     (λ c κs. search needs)
     returns
-    (λ c κs. search needs)
     (λ c κs. search needs)
     (λ c. search needs)
     (λ c. search needs)

@@ -23,22 +23,22 @@ loop-holds c = let st = c .before .before .before in
 returns : tie.Need-returns Inv-loop μ-loop
 returns c = let st = c .before .before .before .before .before .before .before .before in
     let l = c .before .before .before .before .loop in
-    (search needs, λ o. absurd (turn-inside (st .args .chip .now) (st .args .index .now) (st .args .key .now) (st .args .key .now) (st .args .n) (l .lo + (l .hi - l .lo) / 2) (c .before .word .result) (st .pre) (omega arith) (c .before .word .ensures) o (omega arith)))
+    (search needs, λ o. absurd (turn-inside (st .args .chip .now) (st .args .index .now) (st .args .key .now) (st .args .n) (l .lo + (l .hi - l .lo) / 2) (c .before .word .result) (st .pre) (omega arith) (c .before .word .ensures) o (omega arith)))
 
 loop-again : tie.Need-loop-again Inv-loop μ-loop
-loop-again c = let st = c .before .before .before .before .before .before .before .before .before .before .before .before in
-    let l = c .before .before .before .before .before .before .before .before .loop in
-    (search needs, search needs, λ o. turn-up (st .args .chip .now) (st .args .index .now) (st .args .key .now) _ (st .args .n) (l .lo + (l .hi - l .lo) / 2) (c .before .before .before .before .before .word .result) (st .pre) (omega arith) (c .before .before .before .before .before .word .ensures) (c .before .before .before .key-at .ensures) _ (c .before .before .compare .ensures) o _ _ (c .enum-told .given .1) (l .inv .2 o))
+loop-again c = let st = c .before .before .before .before .before .before .before .before .before .before .before in
+    let l = c .before .before .before .before .before .before .before .loop in
+    (search needs, search needs, λ o. turn-up (st .args .chip .now) (st .args .index .now) (st .args .key .now) (st .args .n) (l .lo + (l .hi - l .lo) / 2) (c .before .before .before .before .word .result) (st .pre) (omega arith) (c .before .before .before .before .word .ensures) _ (c .before .before .compare-at .ensures) o _ _ (c .enum-told .given .1) (l .inv .2 o))
 
 returns-2 : tie.Need-returns-2 Inv-loop μ-loop
-returns-2 c = let st = c .before .before .before .before .before .before .before .before .before .before .before .before in
-    let l = c .before .before .before .before .before .before .before .before .loop in
-    (search needs, λ o. turn-found (st .args .chip .now) (st .args .index .now) (st .args .key .now) _ (st .args .n) (l .lo + (l .hi - l .lo) / 2) (c .before .before .before .before .before .word .result) (st .pre) (omega arith) (c .before .before .before .before .before .word .ensures) (c .before .before .before .key-at .ensures) _ (c .before .before .compare .ensures) o _ _ (c .enum-told2 .given .1) (l .inv .2 o))
+returns-2 c = let st = c .before .before .before .before .before .before .before .before .before .before .before in
+    let l = c .before .before .before .before .before .before .before .loop in
+    (search needs, λ o. turn-found (st .args .chip .now) (st .args .index .now) (st .args .key .now) (st .args .n) (l .lo + (l .hi - l .lo) / 2) (c .before .before .before .before .word .result) (st .pre) (omega arith) (c .before .before .before .before .word .ensures) _ (c .before .before .compare-at .ensures) o _ _ (c .enum-told2 .given .1) (l .inv .2 o))
 
 loop-again-2 : tie.Need-loop-again-2 Inv-loop μ-loop
-loop-again-2 c = let st = c .before .before .before .before .before .before .before .before .before .before .before .before in
-    let l = c .before .before .before .before .before .before .before .before .loop in
-    (search needs, search needs, λ o. turn-down (st .args .chip .now) (st .args .index .now) (st .args .key .now) _ (st .args .n) (l .lo + (l .hi - l .lo) / 2) (c .before .before .before .before .before .word .result) (st .pre) (omega arith) (c .before .before .before .before .before .word .ensures) (c .before .before .before .key-at .ensures) _ (c .before .before .compare .ensures) o _ _ (c .enum-told3 .given .1) (l .inv .2 o))
+loop-again-2 c = let st = c .before .before .before .before .before .before .before .before .before .before .before in
+    let l = c .before .before .before .before .before .before .before .loop in
+    (search needs, search needs, λ o. turn-down (st .args .chip .now) (st .args .index .now) (st .args .key .now) (st .args .n) (l .lo + (l .hi - l .lo) / 2) (c .before .before .before .before .word .result) (st .pre) (omega arith) (c .before .before .before .before .word .ensures) _ (c .before .before .compare-at .ensures) o _ _ (c .enum-told3 .given .1) (l .inv .2 o))
 
 returns-3 : tie.Need-returns-3 Inv-loop μ-loop
 returns-3 c = let st = c .before .before .before .before .before in
@@ -57,7 +57,6 @@ find-spec =
     (λ c. search needs)
     (λ c κs. search needs)
     returns
-    (λ c κs. search needs)
     (λ c κs. search needs)
     (λ c. search needs)
     (λ c. search needs)

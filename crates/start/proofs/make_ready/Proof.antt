@@ -16,9 +16,9 @@ returns c =
     let w : List ℕ = c .before .before .before .before .before .before .before .before .before .args .work .now in
     let ix : List ℕ = c .before .before .before .before .replay .last .1 .0 in
     let p = c .before .before .before .before .before .before .before .before .before .pre in
-    let z = lent-before 16 (length w - 16) 0 w ix (omega arith) (omega (arith, p .0 .long)) ∙ p .3 in
-    let m : c .before .before .before .before .replay .result ≤ length ix = omega (arith, c .before .before .before .before .replay .kept .1 .0, mid-len 16 (length w) w (omega arith), c .before .before .before .before .replay .ensures .0, p .1, p .0 .long) in
-    (readies-full _ _ _ _ _ (p .1) m (c .before .before .before .before .replay .ensures .1) _ (omega (arith, c .before .room .ensures)) z)
+    let z = lent-before 16 (length w - 16) 0 w ix (omega arith) (omega (arith, p .0 .0 .long)) ∙ p .0 .3 in
+    let m : c .before .before .before .before .replay .result ≤ length ix = omega (arith, c .before .before .before .before .replay .kept .1 .0, mid-len 16 (length w) w (omega arith), c .before .before .before .before .replay .ensures .0, p .0 .1, p .0 .0 .long) in
+    (readies-full _ _ _ _ _ (p .0 .1) m (c .before .before .before .before .replay .ensures .1) _ (omega (arith, c .before .room .ensures)) z)
 
 same-length-2 : tie.Need-same-length-2
 same-length-2 c = simp length-set (search needs)
@@ -28,8 +28,8 @@ returns-2 c =
     let w : List ℕ = c .before .before .before .before .before .before .before .before .before .before .before .before .before .args .work .now in
     let ix : List ℕ = c .before .before .before .before .before .before .before .before .replay .last .1 .0 in
     let p = c .before .before .before .before .before .before .before .before .before .before .before .before .before .pre in
-    let m : c .before .before .before .before .before .before .before .before .replay .result ≤ length ix = omega (arith, c .before .before .before .before .before .before .before .before .replay .kept .1 .0, mid-len 16 (length w) w (omega arith), c .before .before .before .before .before .before .before .before .replay .ensures .0, p .1, p .0 .long) in
-    (readies-done _ _ _ _ _ (p .1) m (c .before .before .before .before .before .before .before .before .replay .ensures .1) w _ (length w - 16) _ _ _ (omega (arith, p .0 .long)) (ap (λ (v : List ℕ). set v 0 1) (c .before .before .note-down .ensures))
+    let m : c .before .before .before .before .before .before .before .before .replay .result ≤ length ix = omega (arith, c .before .before .before .before .before .before .before .before .replay .kept .1 .0, mid-len 16 (length w) w (omega arith), c .before .before .before .before .before .before .before .before .replay .ensures .0, p .0 .1, p .0 .0 .long) in
+    (readies-done _ _ _ _ _ (p .0 .1) m (c .before .before .before .before .before .before .before .before .replay .ensures .1) w _ (length w - 16) _ _ _ (omega (arith, p .0 .0 .long)) (ap (λ (v : List ℕ). set v 0 1) (c .before .before .note-down .ensures))
     (omega arith) (omega (arith, c .before .before .before .before .before .before .before .before .before .before .find-next .ensures .1)) (omega arith) (omega (arith, c .before .before .before .before .before .room .ensures)))
 
 pub make-ready-spec : {M : Type 1} → statement M

@@ -2,7 +2,6 @@
 use mathlib.Core.Path.{refl, _∙_}
 use native.Mathlib.Omega.{arith}
 use lib.ListN.{length-set}
-use borrow.Author.Tests.{not-true, not-false}
 use Rattle.lent.proofs.Area.{marked, sized-marked}
 use Rattle.start.proofs.Starts.{start-5, start-7, start-unringed, start-ringed}
 use borrow.Author.Needs.{needs}
@@ -19,31 +18,33 @@ returns-2 c =
 slice-write-work : tie.Need-slice-write-work
 slice-write-work c = omega (arith, (c .before .before .before .blocks2 .ensures .0 (omega arith)) .1 .long)
 
-find-head-requires : tie.Need-find-head-requires
-find-head-requires c κs = let s = c .before .before .before .blocks2 .ensures .0 (omega arith) in
+look-at-seals-requires : tie.Need-look-at-seals-requires
+look-at-seals-requires c κs = let s = c .before .before .before .blocks2 .ensures .0 (omega arith) in
     (omega (arith, s .0, s .1 .some-blocks), omega (arith, s .0, s .1 .few-blocks), omega (arith, s .0, s .1 .whole))
 
-is-ring-requires : tie.Need-is-ring-requires
-is-ring-requires c κs = let s = c .before .before .before .before .blocks2 .ensures .0 (omega arith) in
-    (omega (arith, s .0, s .1 .some-blocks), omega (arith, s .0, s .1 .few-blocks), omega (arith, s .0, s .1 .whole), c .find-head .ensures .0)
+find-begin-requires : tie.Need-find-begin-requires
+find-begin-requires c κs = let s = c .before .before .before .before .blocks2 .ensures .0 (omega arith) in
+    (omega (arith, s .0, s .1 .some-blocks), omega (arith, s .0, s .1 .few-blocks), omega (arith, s .0, s .1 .whole), c .look-at-seals .ensures)
 
 returns-3 : tie.Need-returns-3
 returns-3 c = let s = c .before .before .before .before .before .before .blocks2 .ensures .0 (omega arith) in
-    let z = marked (c .before .before .before .before .before .before .before .before .before .before .args .work .now) 0 (omega (arith, s .1 .long)) in
-    (start-unringed (c .before .before .before .before .before .before .before .before .before .before .args .chip .now) (c .before .before .before .before .before .before .before .before .before .before .args .fuse .now) (c .before .before .before .before .before .before .before .before .before .before .args .work .now) _ (s .1) (omega arith) (simp length-set refl) _ _ (s .0) (c .before .before .find-head .ensures .1)
-    (c .before .is-ring .result) (c .before .is-ring .ensures) (not-true _ (c .if3 .taken)) z)
+    let a = c .before .before .before .before .before .before .before .before .before .before .args in
+    let z = marked (a .work .now) 0 (omega (arith, s .1 .long)) in
+    start-unringed (a .chip .now) (a .fuse .now) (a .work .now) _ (s .1) (omega arith) (simp length-set refl) _ _ (s .0) (c .before .before .look-at-seals .ensures .is-head)
+    (c .before .find-begin .ensures .none (omega arith)) z
 
 make-ready-requires : tie.Need-make-ready-requires
 make-ready-requires c κs = let s = c .before .before .before .before .before .before .before .blocks2 .ensures .0 (omega arith) in
-    (sized-marked _ _ _ (s .1), s .0, c .before .before .before .find-head .ensures .0, marked (c .before .before .before .before .before .before .before .before .before .before .before .args .work .now) 0 (omega (arith, s .1 .long)))
+    ((sized-marked _ _ _ (s .1), s .0, c .before .before .before .look-at-seals .ensures .inside, marked (c .before .before .before .before .before .before .before .before .before .before .before .args .work .now) 0 (omega (arith, s .1 .long))), (omega arith, c .before .before .find-begin .ensures))
 
 same-length-4 : tie.Need-same-length-4
 same-length-4 c = c .before .before .make-ready .kept .1 .0 ∙ length-set (c .before .before .before .before .before .before .before .before .before .before .before .before .before .before .args .work .now) 0 0
 
 returns-4 : tie.Need-returns-4
 returns-4 c = let s = c .before .before .before .before .before .before .before .before .before .before .blocks2 .ensures .0 (omega arith) in
-    (start-ringed (c .before .before .before .before .before .before .before .before .before .before .before .before .before .before .args .chip .now) (c .before .before .before .before .before .before .before .before .before .before .before .before .before .before .args .fuse .now) (c .before .before .before .before .before .before .before .before .before .before .before .before .before .before .args .work .now) _ (s .1) (omega arith) (same-length-4 c) _ _ (s .0) (c .before .before .before .before .before .before .find-head .ensures .1)
-    (c .before .before .before .before .before .is-ring .result) (c .before .before .before .before .before .is-ring .ensures) (not-false _ (c .before .before .before .before .if3 .left)) _ (c .before .before .make-ready .ensures))
+    let a = c .before .before .before .before .before .before .before .before .before .before .before .before .before .before .args in
+    start-ringed (a .chip .now) (a .fuse .now) (a .work .now) _ (s .1) (omega arith) (same-length-4 c) _ _ (s .0) (c .before .before .before .before .before .before .look-at-seals .ensures .is-head)
+    (c .before .before .before .before .before .find-begin .ensures .ring (omega arith)) _ (c .before .before .make-ready .ensures)
 
 pub start-spec : {M : Type 1} → statement M
 start-spec =
@@ -55,8 +56,8 @@ start-spec =
     (λ c. search needs)
     returns-2
     slice-write-work
-    find-head-requires
-    is-ring-requires
+    look-at-seals-requires
+    find-begin-requires
     (λ c. search needs)
     returns-3
     make-ready-requires

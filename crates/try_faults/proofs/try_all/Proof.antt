@@ -7,10 +7,10 @@ use Rattle.try_faults.proofs.try_all.Statement.{statement}
 use Rattle.try_faults.proofs.try_all.Tie as tie
 
 abbrev Inv-loop : tie.InvT-loop
-Inv-loop chip₀ before noise₀ forged which₀ chip noise which = (which ≤ 4) × (length chip ≡ 8192) × (length before ≡ 8192) × (length noise ≡ 4096) × (length forged ≡ 256)
+Inv-loop chip₀ before noise₀ i₀ chip noise i = (i ≤ 12) × (length chip ≡ 8192) × (length before ≡ 8192) × (length noise ≡ 4096)
 
 abbrev μ-loop : tie.MeasureT-loop
-μ-loop chip₀ before noise₀ forged which₀ chip noise which = 4 - which
+μ-loop chip₀ before noise₀ i₀ chip noise i = 12 - i
 
 pub try-all-spec : {M : Type 1} → statement M
 try-all-spec =
@@ -20,12 +20,7 @@ try-all-spec =
     μ-loop
     (λ c. search needs)
     (λ c. search needs)
-    (λ c κs. search needs)
-    (λ c κs. search needs)
     (λ c. search needs)
-    (λ c. search needs)
-    (λ c κs. search needs)
-    (λ c κs. search needs)
     (λ c. search needs)
     (λ c. search needs)
     (λ c. search needs)

@@ -7,10 +7,10 @@ use Rattle.try_limits.proofs.play_on.Statement.{statement}
 use Rattle.try_limits.proofs.play_on.Tie as tie
 
 abbrev Inv-loop : tie.InvT-loop
-Inv-loop script from chip₀ work₀ fuse₀ noise₀ at₀ t9 t10 chip work fuse noise at = (from ≤ at) × (at ≤ length script) × (length chip ≡ length chip₀) × (length work ≡ length work₀)
+Inv-loop script from chip₀ work₀ fuse₀ noise₀ at₀ t9 chip work fuse noise at = (from ≤ at) × (at ≤ length script) × (length chip ≡ length chip₀) × (length work ≡ length work₀)
 
 abbrev μ-loop : tie.MeasureT-loop
-μ-loop script from chip₀ work₀ fuse₀ noise₀ at₀ t9 t10 chip work fuse noise at = length script - at
+μ-loop script from chip₀ work₀ fuse₀ noise₀ at₀ t9 chip work fuse noise at = length script - at
 
 pub play-on-spec : {M : Type 1} → statement M
 play-on-spec =
@@ -19,16 +19,14 @@ play-on-spec =
     Inv-loop
     μ-loop
     (λ c. search needs)
-    (λ c κs. search needs)
-    (λ c. search needs)
-    (λ c κs. search needs)
     (λ c. search needs)
     (λ c. search needs)
     (λ c. search needs)
-    (λ c κs. search needs)
     (λ c. search needs)
-    (λ c κs. search needs)
-    (λ c κs. search needs)
+    (λ c. search needs)
+    (λ c. search needs)
+    (λ c. search needs)
+    (λ c. search needs)
     (λ c. search needs)
     (λ c. search needs)
     (λ c. search needs)

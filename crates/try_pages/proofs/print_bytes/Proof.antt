@@ -6,10 +6,10 @@ use Rattle.try_pages.proofs.print_bytes.Statement.{statement}
 use Rattle.try_pages.proofs.print_bytes.Tie as tie
 
 abbrev Inv-loop : tie.InvT-loop
-Inv-loop s i₀ t3 t4 i = i ≤ length s
+Inv-loop s i₀ i = i ≤ length s
 
 abbrev μ-loop : tie.MeasureT-loop
-μ-loop s i₀ t3 t4 i = length s - i
+μ-loop s i₀ i = length s - i
 
 pub print-bytes-spec : {M : Type 1} → statement M
 print-bytes-spec =
@@ -19,11 +19,7 @@ print-bytes-spec =
     μ-loop
     (λ c. search needs)
     (λ c. search needs)
-    (λ c κs. search needs)
     (λ c. search needs)
-    (λ c κs. search needs)
-    (λ c. search needs)
-    (λ c κs. search needs)
     (λ c. search needs)
     (λ c. search needs)
     (λ c. search needs)

@@ -1,6 +1,4 @@
 -- `trying::changed` is safe and ends. Assumes nothing.
-use mathlib.Core.Logic.{⊎-elim}
-use native.Mathlib.Omega.{arith}
 use Prim.Native.Nat.{_≤_, _-_}
 use lib.ListN.{length}
 use borrow.Author.Needs.{needs}
@@ -12,9 +10,6 @@ Inv-loop before after from to n₀ i₀ n i = (i ≤ length before) × (n ≤ i)
 
 abbrev μ-loop : tie.MeasureT-loop
 μ-loop before after from to n₀ i₀ n i = length before - i
-
-loop-again : tie.Need-loop-again Inv-loop μ-loop
-loop-again c = ⊎-elim (λ w. omega arith) (λ w. omega arith) (c .if1 .came)
 
 pub changed-spec : {M : Type 1} → statement M
 changed-spec =
@@ -28,5 +23,6 @@ changed-spec =
     (λ c. search needs)
     (λ c. search needs)
     (λ c. search needs)
-    loop-again
+    (λ c. search needs)
+    (λ c. search needs)
     (λ c. search needs))

