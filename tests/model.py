@@ -301,11 +301,12 @@ class Area:
     def open_next(self, h):
         """How many places of the new head are used; None where a page that must be written isn't blank."""
         spare, oldest, k = (h + 1) % self.blocks, (h + 2) % self.blocks, 0
-        if page_at(self.chip, 16 * oldest + 15) != BLANK:
+        sealed = page_at(self.chip, 16 * oldest + 15) != BLANK
+        if sealed:
             self.erase(spare)
-        for q in range(16 * oldest, 16 * oldest + 15):
+        for q in range(16 * oldest, 16 * oldest + 15) if sealed else ():
             page = page_at(self.chip, q)
-            there, j = self.find(page[16 : 16 + page[2]]) if says(page) == "a value" else (False, 0)
+            there, j = self.find(page[16 : 16 + min(page[2], 16)])
             if there and self.work[16 + j] == q:
                 if k == 15 or not self.write(16 * spare + k, page):
                     return None

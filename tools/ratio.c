@@ -1,6 +1,8 @@
 /* How long the calls take beside those of an earlier build of the library, linked in under the names floatstore_before_*: in turns, in one run, processor time,
- * the least of several rounds. A chip that is memory; full of keys, and for one start blank. */
+ * the least of several rounds. A chip that is memory; full of keys, and for one start blank. Put in turn, a key is written anew before its page is the oldest, so
+ * that no value is copied; put in no order, some are. */
 #define _POSIX_C_SOURCE 200809L
+#include "chance.h"
 #include "letters.h"
 #include <floatstore.h>
 #include <stdio.h>
@@ -44,6 +46,11 @@ static void nth_key(size_t i) { letters(key, (uint32_t)(i % room) * 2654435761u)
 static void put(struct store *s, size_t i) {
     nth_key(i);
     check(s->put(s->chip, len, s->work, words, &fuse, noise, key, sizeof key, value, sizeof value), 0);
+}
+
+static void put_any(struct store *s, size_t i) {
+    chance_state = i;
+    put(s, chance((uint32_t)room));
 }
 
 static void get(struct store *s, size_t i) {
@@ -95,6 +102,7 @@ static void measure(size_t blocks) {
     for (int i = 0; i < 2; i++) set_up(&s[i]);
     printf("%4zu blocks:", blocks);
     compare("put", put, s, 20000);
+    compare("put in no order", put_any, s, 20000);
     compare("get", get, s, 20000);
     compare("start", start, s, starts);
     compare("start, blank chip", start_blank, s, starts);

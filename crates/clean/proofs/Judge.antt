@@ -1,26 +1,30 @@
 -- Whether a page of the oldest block holds a live value: the code asks the index, the theory the rows. Assumes nothing.
 use mathlib.Core.Path.{_≡_, refl, sym, ap, _∙_, subst}
-use mathlib.Core.Logic.{_≢_}
-use mathlib.Core.List.{List, []}
-use mathlib.Core.Bool.{true, false}
-use mathlib.Core.Option.{Option, none, some}
-use Prim.Native.Nat.{ℕ, _+_, _-_, _*_, _≤_, _<_}
+use mathlib.Core.Logic.{_≢_, ite}
+use mathlib.Core.Bool.{true, false, not, true≢false}
+use mathlib.Core.List.{List, [], _∷_}
+use mathlib.Core.Option.{none, some}
+use Prim.Native.Nat.{ℕ, suc, _+_, _-_, _*_, _/_, _%_, _≤_, _<_}
+use native.Mathlib.Nat.{mod-eq-of-lt}
 use native.Mathlib.Omega.{arith}
-use lib.ListN.{length, take, getD}
+use lib.ListN.{length, take, getD, length-take}
 use lib.Seq.{getD-take}
-use Rattle.record.specs.Record.{Rec, recAt, recordOf, keyAt}
-use Rattle.record.specs.Kinds.{kindOf}
-use Rattle.record.specs.declared.Kind.the-variants.{Value, Note, Nothing}
-use Rattle.record.proofs.Reading.{some≢none, some-inj, says-key, kind-value, kind-note, kind-nothing}
-use Rattle.log.specs.Key.{Key}
+use borrow.Author.Tests.{eq-eqb}
+use Rattle.page.specs.Page.{all}
+use Rattle.page.proofs.All.{all-at, all-join, run-fails}
+use Rattle.record.specs.Record.{Rec, recAt, keyAt}
+use Rattle.record.proofs.Reading.{some≢none, some-inj, says-key}
+use Rattle.log.specs.Key.{Key, key≟}
 use Rattle.log.specs.Map.{Map, lookup}
 use Rattle.log.specs.Log.{Placed, pageOf, oldest, run, pages}
-use Rattle.log.specs.Ring.{Chip, chipOf}
+use Rattle.log.specs.Ring.{Chip, chipOf, sealed}
 use Rattle.log.specs.Opening.{none-there}
+use Rattle.log.proofs.Window.{page-block}
+use Rattle.log.proofs.RingLaws.{round-first}
 use Rattle.log.proofs.LogLaws.{Stands}
 use Rattle.log.proofs.Clean.{run-sorted, run-stands}
 use Rattle.log.proofs.Place.{found-lookup, absent-lookup}
-use Rattle.log.proofs.Index.{pages-at}
+use Rattle.log.proofs.Index.{pages-length, pages-at}
 use Rattle.log.proofs.Opening.{same-row}
 use Rattle.index.specs.Index.{keysOf, Ordered}
 use Rattle.index.specs.Answers.{Finds}
@@ -28,111 +32,142 @@ use Rattle.index.specs.declared.Found.{Found}
 use Rattle.index.specs.declared.Found.the-variants.{At, Missing}
 use Rattle.index.proofs.Rows.{rows-ordered, nth, length-rows, before, behind}
 use Rattle.clean.specs.declared.Live.the-variants.{Yes, No}
+use Rattle.clean.specs.Ends.{elsewhere, unlisted, unlistedRun}
 use Rattle.clean.specs.Steps.{Midway, LiveAt, Dead, Judges}
 
-module _ (B : ℕ) (c : List ℕ) (h t s : ℕ) where
-  -- the page says nothing
-  dead-none : recAt c (pageOf B t) ≡ none → Dead B c h t s
-  dead-none e r a at live stands = some≢none (sym at ∙ e)
+-- the search for the key on page q, whatever else that page says
+module _ (c ix : List ℕ) (n q : ℕ) (k : Key) (own : k ≡ keyAt c q) (f : Found) (finds : Ordered c (take n ix) → Finds (keysOf c (take n ix)) k f) where
+  -- q is place t of the oldest block
+  module _ (B h t s : ℕ) (c₀ : Chip) (big : 4 ≤ B) (size : length c ≡ 4096 * B) (low : oldest B (h + B) ≤ t) (l : t < oldest B (h + B) + 15) (at : q ≡ pageOf B t)
+      (m : Midway B c ix n h c₀ t s) where
+    abbrev rows : Map Placed
+    rows = run B (recAt c) (h + B) s
 
-  -- it is a note: no row stands on it
-  dead-note : (x : Rec) → recAt c (pageOf B t) ≡ some x → x .what ≡ none → Dead B c h t s
-  dead-note x e w r a at live stands =
-      let k : Stands B (recAt c) (oldest B (h + B)) (s - oldest B (h + B)) (r .key) a = run-stands B (recAt c) (h + B) s (r .key) a live in
-      some≢none (sym (k .what) ∙ ap (λ (y : Rec). y .what) (some-inj (sym (k .there) ∙ ap (λ (u : ℕ). recAt c (pageOf B u)) stands ∙ e)) ∙ w)
+    found : Finds (keysOf c (pages B rows)) k f
+    found = subst (λ (p : List ℕ). Finds (keysOf c p) k f) (m .rows) (finds (subst (Ordered c) (sym (m .rows)) (rows-ordered B big c size (h + B) s)))
 
--- a value: the search for its key
-module _ (B : ℕ) (big : 4 ≤ B) (c ix : List ℕ) (size : length c ≡ 4096 * B) (n h t s : ℕ) (c₀ : Chip) (low : oldest B (h + B) ≤ t) (l : t < oldest B (h + B) + 15)
-    (m : Midway B c ix n h c₀ t s) (x : Rec) (at : recAt c (pageOf B t) ≡ some x)
-    (f : Found) (finds : Ordered c (take n ix) → Finds (keysOf c (take n ix)) (x .key) f) where
-  abbrev rows : Map Placed
-  rows = run B (recAt c) (h + B) s
+    -- the row of a record on this page is that of the key
+    own-row : (r : Rec) (a : Placed) → recAt c (pageOf B t) ≡ some r → lookup (r .key) rows ≡ some a → lookup k rows ≡ some a
+    own-row r a e d = subst (λ (y : Key). lookup y rows ≡ some a) (sym (own ∙ says-key c q r (ap (recAt c) at ∙ e))) d
 
-  found : Finds (keysOf c (pages B rows)) (x .key) f
-  found = subst (λ (p : List ℕ). Finds (keysOf c p) (x .key) f) (m .rows) (finds (subst (Ordered c) (sym (m .rows)) (rows-ordered B big c size (h + B) s)))
+    -- it is missing
+    dead-missing : (i : ℕ) → f ≡ Missing i → Dead B c h t s
+    dead-missing i e r a says live stands =
+        let w : Finds (keysOf c (pages B rows)) k (Missing i) = subst (Finds (keysOf c (pages B rows)) k) e found in
+        let b : i ≤ length rows = omega (arith, w .says .0, length-rows B big c size (h + B) s k) in
+        some≢none
+        (sym (own-row r a says live)
+        ∙ absent-lookup none-there k rows i b (before B big c size (h + B) s k i b (w .says .1)) (behind B big c size (h + B) s k i (w .says .2)))
 
-  own : (r : Rec) (a : Placed) → recAt c (pageOf B t) ≡ some r → lookup (r .key) rows ≡ some a → lookup (x .key) rows ≡ some a
-  own r a e k = subst (λ (y : Rec). lookup (y .key) rows ≡ some a) (some-inj (sym e ∙ at)) k
+    -- it stands at j
+    module _ (j : ℕ) (e : f ≡ At j) (b : j < n) where
+      here : Finds (keysOf c (pages B rows)) k (At j)
+      here = subst (Finds (keysOf c (pages B rows)) k) e found
 
-  -- it is missing
-  pub dead-missing : (i : ℕ) → f ≡ Missing i → Dead B c h t s
-  dead-missing i e r a says live stands =
-      let w : Finds (keysOf c (pages B rows)) (x .key) (Missing i) = subst (Finds (keysOf c (pages B rows)) (x .key)) e found in
-      let b : i ≤ length rows = omega (arith, w .says .0, length-rows B big c size (h + B) s (x .key)) in
-      some≢none
-      (sym (own r a says live)
-      ∙ absent-lookup none-there (x .key) rows i b (before B big c size (h + B) s (x .key) i b (w .says .1)) (behind B big c size (h + B) s (x .key) i (w .says .2)))
+      inside : j < length rows
+      inside = omega (arith, here .says .0, length-rows B big c size (h + B) s k)
 
-  -- it stands at j
+      abbrev its : Placed
+      its = (getD rows j none-there) .1
+
+      key : k ≡ (getD rows j none-there) .0
+      key = here .says .1 ∙ nth B big c size (h + B) s k j inside
+
+      row : lookup k rows ≡ some its
+      row = found-lookup none-there k rows j (run-sorted B (recAt c) (h + B) s) inside key
+
+      page : getD ix j 0 ≡ pageOf B (its .0)
+      page = sym (getD-take n ix j 0 b) ∙ ap (λ (p : List ℕ). getD p j 0) (m .rows) ∙ pages-at B none-there rows j inside
+
+      -- on this very page: the row says what stands there
+      live-here : getD ix j 0 ≡ q → LiveAt B c h t s j
+      live-here d =
+          let w : Stands B (recAt c) (oldest B (h + B)) (s - oldest B (h + B)) k its = run-stands B (recAt c) (h + B) s k its row in
+          let z : its .0 ≡ t = same-row B big h c₀ (chipOf c) t s k its low l (m .opening) row (sym page ∙ d ∙ at) in
+          record {
+            rec = w .rec;
+            row = its;
+            says = ap (λ (u : ℕ). recAt c (pageOf B u)) (sym z) ∙ w .there;
+            live = subst (λ (y : Key). lookup y rows ≡ some its) (sym (w .key)) row;
+            stands = z;
+            inside = inside;
+            entry = w .key ∙ key;
+          }
+
+      -- elsewhere
+      dead-elsewhere : getD ix j 0 ≢ q → Dead B c h t s
+      dead-elsewhere d r a says live stands =
+          d (page ∙ ap (λ (y : Placed). pageOf B (y .0)) (some-inj (sym row ∙ own-row r a says live)) ∙ ap (pageOf B) stands ∙ sym at)
+
+  -- ---- WHAT THE CODE ANSWERS of page q
+  pub judge-missing : (i : ℕ) → f ≡ Missing i → Judges c ix n q No
+  judge-missing i e = record { one = λ B h t s c₀ big size low l at m. dead-missing B h t s c₀ big size low l at m i e }
+
   module _ (j : ℕ) (e : f ≡ At j) (b : j < n) where
-    here : Finds (keysOf c (pages B rows)) (x .key) (At j)
-    here = subst (Finds (keysOf c (pages B rows)) (x .key)) e found
+    pub judge-here : getD ix j 0 ≡ q → Judges c ix n q (Yes j)
+    judge-here d = record { one = λ B h t s c₀ big size low l at m. live-here B h t s c₀ big size low l at m j e b d }
 
-    inside : j < length rows
-    inside = omega (arith, here .says .0, length-rows B big c size (h + B) s (x .key))
+    pub judge-elsewhere : getD ix j 0 ≢ q → Judges c ix n q No
+    judge-elsewhere d = record { one = λ B h t s c₀ big size low l at m. dead-elsewhere B h t s c₀ big size low l at m j e b d }
 
-    key : x .key ≡ (getD rows j none-there) .0
-    key = here .says .1 ∙ nth B big c size (h + B) s (x .key) j inside
+-- ---- A BLOCK WITHOUT ENTRIES
 
-    row : lookup (x .key) rows ≡ some ((getD rows j none-there) .1)
-    row = found-lookup none-there (x .key) rows j (run-sorted B (recAt c) (h + B) s) inside key
+-- run by run
+module _ (x : ℕ) (ix : List ℕ) where
+  pub unlisted-none : unlisted x ix 0 ≡ true
+  unfolding unlisted all
+  unlisted-none = refl
 
-    page : getD ix j 0 ≡ pageOf B ((getD rows j none-there) .1 .0)
-    page = sym (getD-take n ix j 0 b) ∙ ap (λ (p : List ℕ). getD p j 0) (m .rows) ∙ pages-at B none-there rows j inside
+  pub unlisted-more : (j m : ℕ) → unlisted x ix j ≡ true → unlistedRun x ix j m ≡ true → unlisted x ix (j + m) ≡ true
+  unfolding unlisted unlistedRun
+  unlisted-more j m = all-join (λ i. elsewhere x (getD ix i 0)) j m
 
-    -- on this very page
-    pub live-here : getD ix j 0 ≡ pageOf B t → LiveAt B c h t s j
-    live-here q =
-        record {
-          rec = x;
-          row = (getD rows j none-there) .1;
-          says = at;
-          live = row;
-          stands = same-row B big h c₀ (chipOf c) t s (x .key) ((getD rows j none-there) .1) low l (m .opening) row (sym page ∙ q);
-          inside = inside;
-          entry = key;
-        }
+  pub unlisted-all : (j n : ℕ) → j ≡ n → unlisted x ix j ≡ true → true ≡ unlisted x ix n
+  unlisted-all j n e h = sym (ap (unlisted x ix) (sym e) ∙ h)
 
-    -- elsewhere
-    pub dead-elsewhere : getD ix j 0 ≢ pageOf B t → Dead B c h t s
-    dead-elsewhere d r a says live stands =
-        d (page ∙ ap (λ (y : Placed). pageOf B (y .0)) (some-inj (sym row ∙ own r a says live)) ∙ ap (pageOf B) stands)
+  pub unlisted-fails : (j m n : ℕ) → j + m ≤ n → unlistedRun x ix j m ≡ false → false ≡ unlisted x ix n
+  unfolding unlisted unlistedRun
+  unlisted-fails j m n l e = sym (run-fails (λ i. elsewhere x (getD ix i 0)) j m n l e)
 
--- ---- WHAT THE CODE ANSWERS of page q
-module _ (c ix : List ℕ) (n q : ℕ) where
-  at-place : (B t : ℕ) {o : Option Rec} → q ≡ pageOf B t → recAt c q ≡ o → recAt c (pageOf B t) ≡ o
-  at-place B t e d = ap (recAt c) (sym e) ∙ d
+module _ (B : ℕ) where
+  -- page p stands in the index of the rows m
+  abbrev Has : Map Placed → ℕ → Type 0
+  Has m p = (j : ℕ) × (j < length m) × (getD (pages B m) j 0 ≡ p)
 
-  pub judge-nothing : kindOf (recAt c q) ≡ Nothing → Judges c ix n q No
-  judge-nothing k = record { one = λ B h t s c₀ big size low l e m. dead-none B c h t s (at-place B t e (kind-nothing (recAt c q) k)) }
+  -- the page of each row does
+  listed : (k : Key) (a : Placed) (m : Map Placed) → lookup k m ≡ some a → Has m (pageOf B (a .0))
+  unfolding lookup
+  listed k a [] e = absurd (some≢none (sym e))
+  listed k a (p ∷ m) e = go (key≟ k (p .0)) e (listed k a m)
+    where
+      go : (d : Dec (k ≡ p .0)) → ite d (some (p .1)) (lookup k m) ≡ some a → (lookup k m ≡ some a → Has m (pageOf B (a .0))) → Has (p ∷ m) (pageOf B (a .0))
+      go (yes _) q more = (0, omega arith, ap (λ (y : Placed). pageOf B (y .0)) (some-inj q))
+      go (no _) q more = let w = more q in (suc (w .0), omega (arith, w .1), w .2)
 
-  pub judge-note : kindOf (recAt c q) ≡ Note → Judges c ix n q No
-  judge-note k =
-      let v = kind-note (recAt c q) k in
-      record { one = λ B h t s c₀ big size low l e m. dead-note B c h t s (recordOf true (v .0) []) (at-place B t e (v .1)) refl }
+-- a page of it holds no live value
+module _ (c ix : List ℕ) (n q x : ℕ) (u : unlisted x ix n ≡ true) (b : q / 16 ≡ x) where
+  pub judge-unlisted : Judges c ix n q No
+  unfolding unlisted
+  judge-unlisted =
+      record {
+        one = λ B h t s c₀ big size low l at m r a says live stands.
+            let w = listed B (r .key) a (run B (recAt c) (h + B) s) live in
+            let less : w .0 < n = omega (arith, w .1, pages-length B (run B (recAt c) (h + B) s), ap length (m .rows), length-take n ix) in
+            let e : getD ix (w .0) 0 / 16 ≡ x =
+            ap (λ (p : ℕ). p / 16)
+            (sym (getD-take n ix (w .0) 0 less) ∙ ap (λ (p : List ℕ). getD p (w .0) 0) (m .rows) ∙ w .2 ∙ ap (pageOf B) stands ∙ sym at) ∙ b in
+            true≢false (sym (all-at (λ j. elsewhere x (getD ix j 0)) n (w .0) less u) ∙ ap not (eq-eqb _ _ e));
+      }
 
-  module _ (k : kindOf (recAt c q) ≡ Value) (key : Key) (same : key ≡ keyAt c q) (f : Found) (finds : Ordered c (take n ix) → Finds (keysOf c (take n ix)) key f) where
-    abbrev value : (x : List ℕ) × (v : List ℕ) × (recAt c q ≡ some (recordOf false x v))
-    value = kind-value (recAt c q) k
-
-    own-key : Ordered c (take n ix) → Finds (keysOf c (take n ix)) (value .0) f
-    own-key o = subst (λ (y : Key). Finds (keysOf c (take n ix)) y f) (same ∙ says-key c q (recordOf false (value .0) (value .1)) (value .2)) (finds o)
-
-    pub judge-missing : (i : ℕ) → f ≡ Missing i → Judges c ix n q No
-    judge-missing i d =
-        record { one = λ B h t s c₀ big size low l e m. dead-missing B big c ix size n h t s c₀ low l m (recordOf false (value .0) (value .1)) (at-place B t e (value .2)) f own-key i d }
-
-    module _ (j : ℕ) (d : f ≡ At j) (b : j < n) where
-      pub judge-here : getD ix j 0 ≡ q → Judges c ix n q (Yes j)
-      judge-here p =
-          record {
-            one = λ B h t s c₀ big size low l e m.
-                live-here B big c ix size n h t s c₀ low l m (recordOf false (value .0) (value .1)) (at-place B t e (value .2)) f own-key j d b (p ∙ e);
-          }
-
-      pub judge-elsewhere : getD ix j 0 ≢ q → Judges c ix n q No
-      judge-elsewhere p =
-          record {
-            one = λ B h t s c₀ big size low l e m.
-                dead-elsewhere B big c ix size n h t s c₀ low l m (recordOf false (value .0) (value .1)) (at-place B t e (value .2)) f own-key j d b (λ z. p (z ∙ sym e));
-          }
+-- ---- A BLOCK THAT ISN'T SEALED: in the first round no page of it was written yet
+module _ (c ix : List ℕ) (n q : ℕ) (u : sealed (chipOf c) (q / 16) ≡ false) where
+  pub judge-unused : Judges c ix n q No
+  judge-unused =
+      record {
+        one = λ B h t s c₀ big size low l at m r a says live stands.
+            let z : t / 15 ≡ h + 2 = omega arith in
+            let b : q / 16 ≡ (h + 2) % B = ap (λ (p : ℕ). p / 16) at ∙ page-block B t ∙ ap (λ (x : ℕ). x % B) z in
+            let f = round-first B big (chipOf c) h (m .opening .ring) (ap (sealed (chipOf c)) (sym b) ∙ u) in
+            let w : (h + 2) % B ≡ h + 2 = mod-eq-of-lt (f .0) in
+            some≢none (sym says ∙ ap (recAt c) (sym at) ∙ chipOf c .honest q (f .1 .above q (omega (arith, b, w)) (omega (arith, b, w, f .0))));
+      }

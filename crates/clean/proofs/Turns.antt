@@ -3,7 +3,8 @@ use mathlib.Core.Path.{_≡_, refl, sym, ap, _∙_, subst}
 use mathlib.Core.List.{List, [], _∷_, _++_}
 use mathlib.Core.Option.{some}
 use mathlib.Core.Bool.{true, false, not, true≢false}
-use Prim.Native.Nat.{ℕ, suc, _+_, _-_, _*_, _%_, _≤_, _<_}
+use Prim.Native.Nat.{ℕ, zero, suc, _+_, _-_, _*_, _/_, _%_, _≤_, _<_}
+use native.Mathlib.Numerals.{add-one}
 use native.Mathlib.Omega.{arith}
 use lib.ListN.{length, take, set}
 use lib.Seq.{take-set-lt}
@@ -14,7 +15,7 @@ use Rattle.chip.proofs.Power.{write-stayed, write-went}
 use Rattle.chip.proofs.Plays.{did-none, did-write, did-more, did-then}
 use Rattle.record.specs.Record.{Rec, recOf, recAt}
 use Rattle.log.specs.Log.{pageOf, oldest, run, pages}
-use Rattle.log.specs.Ring.{Chip, chipOf, spare}
+use Rattle.log.specs.Ring.{Chip, chipOf, sealed, spare}
 use Rattle.log.specs.Call.{copying, Wrote, CutWrote, Leads, Cut}
 use Rattle.log.specs.Opening.{Opening, fresh, none-there}
 use Rattle.log.proofs.Window.{page-at}
@@ -27,7 +28,9 @@ use Rattle.log.proofs.Walk.{leads-none, leads-then, leads-cut, leads-skip, lead
 use Rattle.clean.specs.declared.Live.the-variants.{Yes, No}
 use Rattle.clean.specs.declared.Turn.{Turn}
 use Rattle.clean.specs.declared.Turn.the-variants.{On, Dark, Dirty}
+use Rattle.clean.specs.Ends.{unlisted}
 use Rattle.clean.specs.Steps.{Midway, midway, Judges, TurnsBy, Turns, Carries}
+use Rattle.clean.proofs.Judge.{judge-unlisted, judge-unused}
 
 -- place i of the oldest block lies on its page i
 pub oldest-page : (B h i : ℕ) → i < 15 → pageOf B (oldest B (h + B) + i) ≡ 16 * ((h + 2) % B) + i
@@ -207,3 +210,25 @@ module _ (B n h : ℕ) (noise c : List ℕ) (f : ℕ) (ix : List ℕ) where
   -- all of them
   pub turns-all : (i j j′ k : ℕ) (e : j ≡ j′) (c′ ix′ : List ℕ) (f′ : ℕ) (r : Turn) → Turns B n h i j k noise c f ix c′ f′ ix′ r → Turns B n h i j′ k noise c f ix c′ f′ ix′ r
   turns-all i j j′ k e c′ ix′ f′ r x = subst (λ (y : ℕ). Turns B n h i y k noise c f ix c′ f′ ix′ r) e x
+
+-- ---- A BLOCK WITHOUT LIVE VALUES: nothing is done
+module _ (B : ℕ) (big : 4 ≤ B) (noise c ix : List ℕ) (size : length c ≡ 4096 * B) (f n h : ℕ) where
+  turns-dead : ((i : ℕ) → i < 15 → Judges c ix n (16 * ((h + 2) % B) + i) No) → (i : ℕ) → i ≤ 15 → Turns B n h 0 i 0 noise c f ix c f ix (On 0)
+  turns-dead dead zero l = turns-none B n h noise c f ix
+  turns-dead dead (suc i) l =
+      subst (λ (y : ℕ). Turns B n h 0 y 0 noise c f ix c f ix (On 0)) (add-one i)
+      (turns-next B n h noise c f ix i c ix f 0 (turns-dead dead i (omega arith)) c ix f (On 0)
+      (look-on B big noise c ix size f n h i 0 (16 * ((h + 2) % B) + i) (omega arith) refl (dead i (omega arith))))
+
+  -- the index has no page of it
+  pub turns-unlisted : (x : ℕ) → x ≡ (h + 2) % B → unlisted x ix n ≡ true → Turns B n h 0 15 0 noise c f ix c f ix (On 0)
+  turns-unlisted x e u = turns-dead (λ i l. judge-unlisted c ix n (16 * ((h + 2) % B) + i) x u (omega arith)) 15 (omega arith)
+
+  -- it isn't sealed
+  pub turns-unused : sealed (chipOf c) ((h + 2) % B) ≡ false → Turns B n h 0 15 0 noise c f ix c f ix (On 0)
+  turns-unused u =
+      turns-dead
+      (λ i l.
+      let b : (h + 2) % B ≡ (16 * ((h + 2) % B) + i) / 16 = omega arith in
+      judge-unused c ix n (16 * ((h + 2) % B) + i) (subst (λ (x : ℕ). sealed (chipOf c) x ≡ false) b u))
+      15 (omega arith)

@@ -1,43 +1,26 @@
 // Cleaning (document 03, section 3): the live values of the oldest block are copied to the spare, one by one, and the index is brought up to each copy.
 // Whatever stands in the index and on the chip, no call traps, and no page is written that isn't blank. What each function did is said in specs/Steps.antt.
 use index::Found;
-use record::Kind;
 ghost use Prim.Native.Nat.{_+_, _*_, _≤_, _<_};
 ghost use mathlib.Core.Path.{_≡_};
 ghost use lib.ListN.{length};
-ghost use Rattle.chip.specs.Chip.{pageAt};
-ghost use Rattle.record.specs.Record.{recAt};
-ghost use Rattle.record.specs.Kinds.{kindOf};
-ghost use Rattle.record.specs.declared.Kind.the-variants.{Value};
-ghost use Rattle.clean.specs.Ends.{Sane, LiveWithin, Few};
+ghost use Rattle.clean.specs.Ends.{Sane, LiveWithin, Few, elsewhere, unlisted, unlistedRun};
 ghost use Rattle.clean.specs.Steps.{Judges, Carries, Turns};
 
-// Whether page q, which was read, holds a live value: the newest record of its key, by the index. If so, where its entry stands.
+// Whether page q holds a live value: the newest record of its key, by the index. If so, where its entry stands. Of the page the beginning is read, 32 bytes;
+// what it says isn't asked: where the index is right, an entry is the page of a value.
 pub enum Live {
     Yes(usize),
     No,
 }
 
-fn is_live(chip: &[u8], index: &[u32], n: usize, q: usize, page: &[u8]) -> Live
-    requires { ⌜ (n ≤ length (now index)) × (length (now page) ≡ 256) × (now page ≡ pageAt (now chip) q) ⌝ }
+fn is_live(chip: &[u8], index: &[u32], n: usize, q: usize) -> Live
+    requires { ⌜ (n ≤ length (now index)) × (256 * q + 256 ≤ length (now chip)) ⌝ }
     ensures within { λ r. ⌜ LiveWithin n r ⌝ }
     ensures right { λ r. ⌜ Judges (now (chip .entry)) (now (index .entry)) n q r ⌝ }
 {
-    match record::kind_of(page) {
-        Kind::Value => entry_of(chip, index, n, q, page),
-        Kind::Note => Live::No,
-        Kind::Nothing => Live::No,
-    }
-}
-
-// The same of a page that holds a value.
-fn entry_of(chip: &[u8], index: &[u32], n: usize, q: usize, page: &[u8]) -> Live
-    requires { ⌜ (n ≤ length (now index)) × (length (now page) ≡ 256) × (now page ≡ pageAt (now chip) q) ⌝ }
-    requires { ⌜ kindOf (recAt (now chip) q) ≡ Value ⌝ }
-    ensures within { λ r. ⌜ LiveWithin n r ⌝ }
-    ensures right { λ r. ⌜ Judges (now (chip .entry)) (now (index .entry)) n q r ⌝ }
-{
-    match index::find(chip, index, n, record::key_on(page)) {
+    let begins = chip::beginning_at(chip, q);
+    match index::find(chip, index, n, record::key_on(&begins)) {
         Found::At(j) => {
             if index::word(index[j]) == q {
                 return Live::Yes(j);
@@ -88,7 +71,7 @@ fn carry(
     Turn::On(k + 1)
 }
 
-// Place i of the oldest block is looked at: its page is read once, to be judged and to be copied.
+// Place i of the oldest block is looked at. Its page is read if it is to be copied.
 fn look_at(
     chip: &mut [u8],
     index: &mut [u32],
@@ -106,14 +89,61 @@ fn look_at(
     ensures few { λ r. ⌜ Few r ⌝ }
 {
     let q = 16 * log::block_after(h, 2, b) + i;
-    let page = chip::page_at(chip, q);
-    match is_live(chip, index, n, q, &page) {
-        Live::Yes(j) => carry(chip, index, n, b, h, k, j, &page, fuse, noise),
+    match is_live(chip, index, n, q) {
+        Live::Yes(j) => {
+            let page = chip::page_at(chip, q);
+            carry(chip, index, n, b, h, k, j, &page, fuse, noise)
+        }
         Live::No => Turn::On(k),
     }
 }
 
-// The live values of the oldest block are copied to the spare.
+// Whether page p is in another block than x.
+fn is_elsewhere(p: u32, x: u32) -> bool
+    ensures { λ r. ⌜ r ≡ elsewhere x p ⌝ }
+{
+    !(p / 16 == x)
+}
+
+// Whether none of the m entries from index `from` on is a page of block x. The loop passes over all of them: so the compiler vectorises it.
+fn unlisted_run(index: &[u32], from: usize, m: usize, x: u32) -> bool
+    requires { ⌜ from + m ≤ length (now index) ⌝ }
+    ensures { λ r. ⌜ r ≡ unlistedRun x (now (index .entry)) from m ⌝ }
+{
+    let mut ok = true;
+    let mut i = 0;
+    while i < m {
+        ok = ok & is_elsewhere(index[from + i], x);
+        i += 1;
+    }
+    ok
+}
+
+// How many entries are looked at in one run, if there are still so many: at most 64.
+fn run_of(left: usize) -> usize
+    requires { ⌜ 0 < left ⌝ }
+    ensures { λ r. ⌜ (0 < r) × (r ≤ left) ⌝ }
+{
+    if left < 64 { left } else { 64 }
+}
+
+// Whether none of the first n entries is a page of block x. After a run that has one none is looked at.
+fn is_unlisted(index: &[u32], n: usize, x: u32) -> bool
+    requires { ⌜ n ≤ length (now index) ⌝ }
+    ensures { λ r. ⌜ r ≡ unlisted x (now (index .entry)) n ⌝ }
+{
+    let mut j = 0;
+    while j < n {
+        let m = run_of(n - j);
+        if !unlisted_run(index, j, m, x) {
+            return false;
+        }
+        j += m;
+    }
+    true
+}
+
+// The live values of the oldest block are copied to the spare. Of a block that has none by the index nothing is read.
 pub fn clean(
     chip: &mut [u8],
     index: &mut [u32],
@@ -127,6 +157,9 @@ pub fn clean(
     ensures right { λ r. ⌜ Turns b n h 0 15 0 (now (noise .entry)) (now (chip .entry)) (now (fuse .entry)) (now (index .entry)) (now (chip .exit)) (now (fuse .exit)) (now (index .exit)) r ⌝ }
     ensures few { λ r. ⌜ Few r ⌝ }
 {
+    if is_unlisted(index, n, log::block_after(h, 2, b) as u32) {
+        return Turn::On(0);
+    }
     let mut k = 0;
     let mut i = 0;
     while i < log::PLACES {

@@ -1,22 +1,32 @@
 // Opening the next block: the spare is erased, the live values of the oldest block are copied to it, and the head is sealed; then the spare is the head.
 // Each function says with Did what it did to the chip. Whatever stands in the index and on the chip, no call traps, and no page is written that isn't blank.
 use clean::Turn;
-ghost use Prim.Native.Nat.{_+_, _-_, _*_, _≤_, _<_};
+ghost use Prim.Native.Nat.{_+_, _-_, _*_, _%_, _≤_, _<_};
 ghost use mathlib.Core.Path.{_≡_};
+ghost use mathlib.Core.Bool.{true};
 ghost use lib.ListN.{length};
+ghost use Rattle.chip.specs.Chip.{blankAt};
 ghost use Rattle.log.specs.Ring.{mostBlocks};
 ghost use Rattle.clean.specs.Ends.{Sane, Few};
+ghost use Rattle.clean.specs.Steps.{Turns};
 ghost use Rattle.opening.specs.Ends.{RoomWithin};
 ghost use Rattle.opening.specs.Steps.{Clears, Seals, Fills, Opens, Rooms};
 
-// The spare is erased, if the oldest block is sealed: in the first round it is blank, and a cut erase could leave it looking sealed. Answers whether the
-// power stayed.
-fn clear_spare(chip: &mut [u8], b: usize, h: usize, fuse: &mut u64, noise: &[u8]) -> bool
+// The spare is erased, but in the first round: then it is blank, and a cut erase could leave it looking sealed. Answers whether the power stayed.
+fn clear_spare(
+    chip: &mut [u8],
+    b: usize,
+    h: usize,
+    fuse: &mut u64,
+    noise: &[u8],
+    first: bool,
+) -> bool
     requires { ⌜ (4 ≤ b) × (b ≤ mostBlocks) × (length (now chip) ≡ 4096 * b) × (h < b) × (length (now noise) ≡ 4096) ⌝ }
-    ensures { λ r. ⌜ Clears b h (now (noise .entry)) (now (chip .entry)) (now (fuse .entry)) (now (chip .exit)) (now (fuse .exit)) r ⌝ }
+    requires { ⌜ first ≡ blankAt (now chip) (16 * ((h + 2) % b) + 15) ⌝ }
+    ensures right { λ r. ⌜ Clears b h (now (noise .entry)) (now (chip .entry)) (now (fuse .entry)) (now (chip .exit)) (now (fuse .exit)) r ⌝ }
+    ensures same { λ r. ⌜ (first ≡ true → now (chip .exit) ≡ now (chip .entry)) ⌝ }
 {
-    let oldest = log::block_after(h, 2, b);
-    if chip::blank_at(chip, 16 * oldest + log::PLACES) {
+    if first {
         return true;
     }
     let spare = log::block_after(h, 1, b);
@@ -45,6 +55,28 @@ fn seal_head(chip: &mut [u8], b: usize, h: usize, k: usize, fuse: &mut u64, nois
     Turn::On(k)
 }
 
+// The live values of the oldest block go to the spare. In the first round it has none.
+fn copy_live(
+    chip: &mut [u8],
+    index: &mut [u32],
+    n: usize,
+    b: usize,
+    h: usize,
+    fuse: &mut u64,
+    noise: &[u8],
+    first: bool,
+) -> Turn
+    requires { ⌜ Sane b (now chip) (now index) (now noise) n h ⌝ }
+    requires { ⌜ (first ≡ true → blankAt (now chip) (16 * ((h + 2) % b) + 15) ≡ true) ⌝ }
+    ensures right { λ r. ⌜ Turns b n h 0 15 0 (now (noise .entry)) (now (chip .entry)) (now (fuse .entry)) (now (index .entry)) (now (chip .exit)) (now (fuse .exit)) (now (index .exit)) r ⌝ }
+    ensures few { λ r. ⌜ Few r ⌝ }
+{
+    if first {
+        return Turn::On(0);
+    }
+    clean::clean(chip, index, n, b, h, fuse, noise)
+}
+
 // The live values of the oldest block go to the spare, and the head is sealed.
 fn fill_spare(
     chip: &mut [u8],
@@ -54,19 +86,21 @@ fn fill_spare(
     h: usize,
     fuse: &mut u64,
     noise: &[u8],
+    first: bool,
 ) -> Turn
     requires { ⌜ Sane b (now chip) (now index) (now noise) n h ⌝ }
+    requires { ⌜ (first ≡ true → blankAt (now chip) (16 * ((h + 2) % b) + 15) ≡ true) ⌝ }
     ensures right { λ r. ⌜ Fills b n h (now (noise .entry)) (now (chip .entry)) (now (fuse .entry)) (now (index .entry)) (now (chip .exit)) (now (fuse .exit)) (now (index .exit)) r ⌝ }
     ensures few { λ r. ⌜ Few r ⌝ }
 {
-    match clean::clean(chip, index, n, b, h, fuse, noise) {
+    match copy_live(chip, index, n, b, h, fuse, noise, first) {
         Turn::On(k) => seal_head(chip, b, h, k, fuse, noise),
         Turn::Dark => Turn::Dark,
         Turn::Dirty => Turn::Dirty,
     }
 }
 
-// The next block is opened, where the head is full. Answers how many of its places are used.
+// The next block is opened, where the head is full. Answers how many of its places are used. In the first round the oldest block isn't sealed.
 pub fn open_next(
     chip: &mut [u8],
     index: &mut [u32],
@@ -80,8 +114,10 @@ pub fn open_next(
     ensures right { λ r. ⌜ Opens b n h (now (noise .entry)) (now (chip .entry)) (now (fuse .entry)) (now (index .entry)) (now (chip .exit)) (now (fuse .exit)) (now (index .exit)) r ⌝ }
     ensures few { λ r. ⌜ Few r ⌝ }
 {
-    if clear_spare(chip, b, h, fuse, noise) {
-        return fill_spare(chip, index, n, b, h, fuse, noise);
+    let oldest = log::block_after(h, 2, b);
+    let first = chip::blank_at(chip, 16 * oldest + log::PLACES);
+    if clear_spare(chip, b, h, fuse, noise, first) {
+        return fill_spare(chip, index, n, b, h, fuse, noise, first);
     }
     Turn::Dark
 }

@@ -5,7 +5,7 @@ use mathlib.Core.Path.{_≡_}
 use Prim.Native.Nat.{ℕ, zero, suc, _+_, _*_, _≤_, _<_}
 use lib.Dec.{eqb}
 use Rattle.page.specs.Page.{all}
-use Rattle.log.specs.Log.{pages, oldest, pageOf}
+use Rattle.log.specs.Log.{pageOf}
 use Rattle.log.specs.Ring.{Chip, sealed, head, ringTest}
 use Rattle.ring.specs.declared.Seals.{Seals}
 

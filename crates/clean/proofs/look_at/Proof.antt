@@ -10,19 +10,19 @@ use Rattle.clean.proofs.look_at.Statement.{statement}
 use Rattle.clean.proofs.look_at.Tie as tie
 
 is-live-requires : tie.Need-is-live-requires
-is-live-requires c κs = (c .before .before .before .before .before .before .before .before .before .pre .0 .entries, search needs, c .before .before .before .page-at .ensures)
+is-live-requires c κs = (c .before .before .before .before .before .before .pre .0 .entries, search needs)
 
 carry-requires : tie.Need-carry-requires
-carry-requires c κs = let st = c .before .before .before .before .before .before .before .before .before .before .before .before .before .before .before .before .before in
-    (st .pre .0, (search needs, subst (λ (r : Live). LiveWithin (st .args .n) r) (c .before .before .before .before .before .j .given .1) (c .before .before .before .before .before .before .before .is-live .ensures .0)))
+carry-requires c κs = let st = c .before .before .before .before .before .before .before .before .before .before .before .before .before .before .before .before in
+    (st .pre .0, (search needs, subst (λ (r : Live). LiveWithin (st .args .n) r) (c .before .before .before .before .before .before .before .j .given .1) (c .before .before .before .before .before .before .before .before .before .is-live .ensures .0)))
 
 returns-2 : tie.Need-returns-2
-returns-2 c = let st = c .before .before .before .before .before .before .before .before .before .before .before .before in
-    (look-on _ (st .pre .0 .some-blocks) _ _ _ (st .pre .0 .size) _ _ _ _ _ _ (st .pre .1 .0) (ap (λ (x : ℕ). 16 * x + st .args .i) (c .before .before .before .before .before .before .before .before .block-after .ensures .0)) (subst (Judges _ _ _ _) (c .enum-told .given .1) (c .before .before .is-live .ensures .1)), search needs)
+returns-2 c = let st = c .before .before .before .before .before .before .before .before .before in
+    (look-on _ (st .pre .0 .some-blocks) _ _ _ (st .pre .0 .size) _ _ _ _ _ _ (st .pre .1 .0) (ap (λ (x : ℕ). 16 * x + st .args .i) (c .before .before .before .before .before .block-after .ensures .0)) (subst (Judges _ _ _ _) (c .enum-told .given .1) (c .before .before .is-live .ensures .1)), search needs)
 
 returns : tie.Need-returns
-returns c = let st = c .before .before .before .before .before .before .before .before .before .before .before .before .before .before .before .before .before .before .before .before .before .before in
-    (look-carried _ (st .pre .0 .some-blocks) _ _ _ (st .pre .0 .size) _ _ _ _ _ _ (st .pre .1 .0) (ap (λ (x : ℕ). 16 * x + st .args .i) (c .before .before .before .before .before .before .before .before .before .before .before .before .before .before .before .before .before .before .block-after .ensures .0)) _ _ _ _ _ _ (c .before .before .before .before .before .before .before .before .before .before .before .before .before .before .before .before .page-at .ensures) (subst (Judges _ _ _ _) (c .before .before .before .before .before .before .before .before .before .before .j .given .1) (c .before .before .before .before .before .before .before .before .before .before .before .before .is-live .ensures .1)) (c .before .before .before .before .carry .ensures .0), c .before .before .before .before .carry .ensures .1)
+returns c = let st = c .before .before .before .before .before .before .before .before .before .before .before .before .before .before .before .before .before .before .before .before .before in
+    (look-carried _ (st .pre .0 .some-blocks) _ _ _ (st .pre .0 .size) _ _ _ _ _ _ (st .pre .1 .0) (ap (λ (x : ℕ). 16 * x + st .args .i) (c .before .before .before .before .before .before .before .before .before .before .before .before .before .before .before .before .before .block-after .ensures .0)) _ _ _ _ _ _ (c .before .before .before .before .before .before .before .before .before .page-at .ensures) (subst (Judges _ _ _ _) (c .before .before .before .before .before .before .before .before .before .before .before .before .j .given .1) (c .before .before .before .before .before .before .before .before .before .before .before .before .before .before .is-live .ensures .1)) (c .before .before .before .before .carry .ensures .0), c .before .before .before .before .carry .ensures .1)
 
 pub look-at-spec : {M : Type 1} → statement M
 look-at-spec =
@@ -31,10 +31,9 @@ look-at-spec =
     (λ c κs. search needs)
     (λ c. search needs)
     (λ c. search needs)
-    (λ c κs. search needs)
-    (λ c. search needs)
     is-live-requires
     (λ c. search needs)
+    (λ c κs. search needs)
     (λ c. search needs)
     carry-requires
     (λ c. search needs)
