@@ -54,12 +54,12 @@
 extern "C" {
 #endif
 
-/* The version of this header, as in the file VERSION: docs/DECISIONS.md, "Version 0.9.0", says what each number promises. */
+/* The version of this header, as in the file VERSION: docs/DECISIONS.md, "Version numbers", says what each number promises. */
 #define FLOATSTORE_VERSION_MAJOR 0
-#define FLOATSTORE_VERSION_MINOR 9
+#define FLOATSTORE_VERSION_MINOR 10
 #define FLOATSTORE_VERSION_PATCH 0
-#define FLOATSTORE_VERSION "0.9.0"
-#define FLOATSTORE_VERSION_NUMBER (10000 * FLOATSTORE_VERSION_MAJOR + 100 * FLOATSTORE_VERSION_MINOR + FLOATSTORE_VERSION_PATCH) /* 900: these grow */
+#define FLOATSTORE_VERSION "0.10.0"
+#define FLOATSTORE_VERSION_NUMBER (10000 * FLOATSTORE_VERSION_MAJOR + 100 * FLOATSTORE_VERSION_MINOR + FLOATSTORE_VERSION_PATCH) /* 1000: these grow */
 
 #define FLOATSTORE_PAGE 256u /* bytes of a page */
 #define FLOATSTORE_BLOCK 4096u /* bytes of a block: 16 pages */
@@ -88,11 +88,13 @@ enum floatstore_refusal {
     FLOATSTORE_NUMBERS_OUT = 9 /* numbers have run out: this design has none, so it is never answered */
 };
 
-/* What a start saw of the chip's pages, for those who compare chips: a page is blank (all 0xFF), sound (its second half is the
- * flipped copy of the first), or spoilt, as a cut write or erase leaves it. */
+/* What a start saw of the chip's pages, for those who compare chips: a page is blank (all 0xFF), sound (by its form: its last two
+ * bytes count the 0 bits before them, or, on an old page, its second half is the flipped copy of the first), or spoilt, as a cut
+ * write or erase leaves it. */
 struct floatstore_seen {
     uint64_t blank, sound, spoilt; /* how many pages of each kind: together 16 B */
-    uint64_t page, byte; /* if spoilt > 0: the first spoilt page, and the lowest byte (0 to 127) at which it and its copy disagree */
+    uint64_t page, byte; /* if spoilt > 0: the first spoilt page, and where: at byte 254, where the count stands, if its form is the
+                          * count; else at the lowest byte (0 to 127) that disagrees with its copy, or at 0 if each agrees */
 };
 
 #ifndef FLOATSTORE_DRIVER_H /* floatstore_driver.h takes all that is above, and has these calls without fuse and noise */

@@ -210,6 +210,13 @@ static void saw(int64_t answer, uint64_t blank, uint64_t sound, uint64_t spoilt,
     IS(byte, s.byte);
 }
 
+/* Page p in the old form. */
+static void make_old(size_t p) {
+    uint8_t *at = chip + 256 * p;
+    at[0] = 1;
+    for (size_t i = 0; i < 128; i++) at[128 + i] = (uint8_t)~at[i];
+}
+
 /* The start that says what it saw: pages of the three kinds, and the first spoilt one; also of a chip that it refuses with 8, and not with 5 or 7. */
 static void seeing(void) {
     const struct floatstore_seen before = {1, 2, 3, 4, 5};
@@ -219,6 +226,12 @@ static void seeing(void) {
     for (uint32_t i = 0; i < 5; i++) IS(0, put("a", 1, &i, 4));
     saw(0, 59, 5, 0, 0, 0);
     IS(1, count());
+    IS(2, chip[256 * 3]); /* the form */
+    chip[256 * 3 + 200] ^= 1; /* wherever the bit is, byte 254 is told, where the count stands */
+    saw(0, 59, 4, 1, 3, 254);
+    chip[256 * 3 + 200] ^= 1;
+    make_old(3);
+    saw(0, 59, 5, 0, 0, 0);
     chip[256 * 3 + 128 + 40] ^= 1; /* the copy of byte 40 */
     chip[256 * 3 + 77] ^= 1;
     chip[256 * 63] = 0x7F; /* in the spare of the later rounds */
@@ -227,8 +240,12 @@ static void seeing(void) {
     IS(-8, count());
     chip[256 * 63] = chip[256 * 63 + 255] = 0xFF;
     saw(0, 59, 4, 1, 3, 40);
+    make_old(1);
     chip[256 * 1 + 127] ^= 4;
     saw(0, 59, 3, 2, 1, 127);
+    make_old(0);
+    chip[0] = 3, chip[128] = 252; /* the halves agree, and there is no such form */
+    saw(0, 59, 2, 3, 0, 0);
     memset(chip, 0, chip_len);
     saw(-8, 0, 0, 64, 0, 0);
     fuse = 0;
@@ -249,14 +266,14 @@ static void follows(const void *key, size_t key_len, const void *want, size_t wa
     for (size_t i = want_len; i < sizeof b; i++) IS(0x5C, b[i]);
 }
 
-/* The record of a key with an empty value, by docs/FORMAT.md, on a page of the chip: keys that came there by other ways than put. */
+/* The record of a key with an empty value, in the old form, by docs/FORMAT.md, on a page of the chip: keys that came there by other ways than put. */
 static void plant(size_t page, const void *key, uint8_t key_len) {
     uint8_t *at = chip + 256 * page;
     memset(at, 0, 128);
-    at[0] = at[1] = 1;
+    at[1] = 1;
     at[2] = key_len;
     memcpy(at + 16, key, key_len);
-    for (size_t i = 0; i < 128; i++) at[128 + i] = (uint8_t)~at[i];
+    make_old(page);
 }
 
 /* Put takes keys of the bytes 0x21 to 0x7E alone; get, delete and next take any, so that old ones are found and removed. */

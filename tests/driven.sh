@@ -9,7 +9,7 @@ room=$(mktemp -d) || exit 1
 trap 'rm -rf "$room"' EXIT
 trap 'exit 130' INT TERM HUP
 # build OUT WORDS..: the laboratory with a library
-build() { out=$1; shift; tools/cc.sh "$out" -Itools tests/laboratory/driven.c tests/laboratory/lab.c tools/watch.c "$@"; }
+build() { out=$1; shift; tools/cc.sh "$out" -Itools tests/laboratory/driven.c tests/laboratory/lab.c tools/watch.c tools/reading.c "$@"; }
 build target/c/driven "$library" || exit 1
 tools/run.sh target/c/driven "${DRIVEN_SECONDS:-30}" || exit 1
 

@@ -1,23 +1,36 @@
 #!/usr/bin/env python3
-"""model.py try_faults | try_history | try_limits | try_pages | try_wild: what that program must write, computed from documents 01 and 03,
+"""model.py try_faults | try_history | try_limits | try_one_byte | try_pages | try_wild: what that program must write, computed from documents 01 and 03,
 requests 7 and 9 and docs/FORMAT.md alone. The scripts of try_history and try_limits are read from their files stdin.
 
 An independent model of the page form, the payload's layout, the fault script and the calls.
 """
+import itertools
 import os
 import sys
 
 
 FLIPPED = bytes(255 - x for x in range(256))
+OLD, NEW = 1, 2  # byte 0 of a page: its form
 
 
-def page_of(payload):
-    return payload + payload.translate(FLIPPED)
+def zero_bits(payload):
+    return 8 * len(payload) - int.from_bytes(payload, "big").bit_count()
 
 
-def record_page(kind, key, value):
-    heading = bytes([1, kind, len(key), len(value)])
-    return page_of(heading.ljust(16, b"\0") + key.ljust(16, b"\0") + value.ljust(96, b"\0"))
+def form_of(form, payload):
+    """The page of a payload: an old page has a flipped copy, and any other has the number of the 0 bits."""
+    if form == OLD:
+        return payload[:128] + payload[:128].translate(FLIPPED)
+    return payload[:254] + zero_bits(payload[:254]).to_bytes(2, "big")
+
+
+def payload_of(form, kind, key, value, key_len=None, value_len=None):
+    heading = bytes([form, kind, len(key) if key_len is None else key_len, len(value) if value_len is None else value_len])
+    return (heading.ljust(16, b"\0") + key.ljust(16, b"\0") + value).ljust(254, b"\0")
+
+
+def record_page(kind, key, value, form=NEW):
+    return form_of(form, payload_of(form, kind, key, value))
 
 
 def value_page(key, value):
@@ -25,7 +38,7 @@ def value_page(key, value):
 
 
 def sound(page):
-    return page == page_of(page[:128])
+    return page[0] in (OLD, NEW) and page == form_of(page[0], page)
 
 
 def ors(old, noise):
@@ -46,16 +59,24 @@ def erase(chip, b, script, noise):
 
 
 def says(page):
-    if not sound(page) or page[0] != 1 or not 1 <= page[2] <= 16:
+    if not sound(page) or not 1 <= page[2] <= 16:
         return "nothing"
-    if page[1] == 1 and page[3] <= 96:
+    if page[1] == 1 and page[3] <= (96 if page[0] == OLD else 220):
         return "a value"
     return "a note" if page[1] == 2 and page[3] == 0 else "nothing"
 
 
+def anew(page):
+    """The page of a copy: what it says, in the form that is written now; one that says nothing as it stands."""
+    kinds = {"a value": 1, "a note": 2}
+    if says(page) not in kinds:
+        return page
+    return record_page(kinds[says(page)], page[16 : 16 + page[2]], page[32 : 32 + page[3]])
+
+
 def line(name, script, which, chip, before, p, span, left):
     page = chip[256 * p : 256 * p + 256]
-    words = [f"{name}, script {script}, noise {['all zeros:', 'all ones: ', 'mixed:    ', 'forged:   '][which]} {page[0]:02x} {page[128]:02x}"]
+    words = [f"{name}, script {script}, noise {['all zeros:', 'all ones: ', 'mixed:    ', 'forged:   '][which]} {page[0]:02x} {page[254:].hex()}"]
     words.append(f"sums {sum(page[:128])} {sum(page[128:])}")
     words += ["blank"] * (page == b"\xff" * 256) + ["sound"] * sound(page) + [f"says {says(page)}", f"left of the script {left}"]
     elsewhere = sum(x != y for i, (x, y) in enumerate(zip(before, chip)) if i not in span)
@@ -75,11 +96,54 @@ def faults():
 
 
 def pages():
-    for kind, key, value in [(1, "a", "1"), (2, "sensor/temp/0016", ""), (3, "", "")]:
-        page = record_page(kind, key.encode(), value.encode())
-        print(f"{says(page)}, key '{key}', value '{value}'")
+    for form, kind, key, value in [(NEW, 1, "a", "1"), (NEW, 2, "sensor/temp/0016", ""), (NEW, 3, "", ""), (OLD, 1, "a", "1")]:
+        page = record_page(kind, key.encode(), value.encode(), form)
+        print(f"{'in the old form: ' * (form == OLD)}{says(page)}, key '{key}', value '{value}'")
         for i in range(0, 256, 32):
             print(page[i : i + 32].hex(" "))
+    examples()
+
+
+def examples():
+    """The three of document 02, request 3."""
+    told("zeros, counted", form_of(NEW, bytes(254)))
+    told("a page of one bit, its bits 1 counted", b"\2".ljust(254, b"\0") + b"\0\1")
+    told("the same, cut short", b"\2\3".ljust(254, b"\0") + b"\0\3")
+    whole = form_of(NEW, b"\2".ljust(254, b"\0"))
+    told("a page of one bit, its bits 0 counted", whole)
+    told("the same, cut short", ors(whole, b"\0\3".ljust(256, b"\0")))
+    old = form_of(OLD, payload_of(OLD, 1, b"a", b"1")[:126] + b"\xff\xff")
+    told("an old page whose payload ends in ffff", old)
+    cut = old[:254] + zero_bits(old[:254]).to_bytes(2, "big")
+    told("the same, cut short", cut)
+    told("the same, were its form the other", bytes([NEW]) + cut[1:])
+
+
+def told(name, page):
+    ones = 8 * 254 - zero_bits(page[:254])
+    print(f"{name}: begins with {page[0]:02x}, bits 1: {ones}, ends with {page[254:].hex()}; {'sound' if sound(page) else 'not sound'}, says {says(page)}")
+
+
+def cuts_of(byte):
+    """What a cut write may leave of a byte."""
+    return [x for x in range(256) if x & byte == byte]
+
+
+def one_byte():
+    """Byte 1 of a page of zeros is 0x01: what a cut may leave of it and of what vouches for it, and which of that is sound."""
+    for form, places, name in [(OLD, [1, 129], "pairs"), (NEW, [1, 254, 255], "triples")]:
+        meant = form_of(form, bytes([form, 1]).ljust(254, b"\0"))
+        if form == NEW:
+            print("meant:", bytes(meant[i] for i in places).hex(" "))
+        tried = 0
+        for left in itertools.product(*[cuts_of(meant[i]) for i in places]):
+            page = bytearray(meant)
+            for i, x in zip(places, left):
+                page[i] = x
+            tried += 1
+            if sound(bytes(page)):
+                print("sound:", bytes(left).hex(" "))
+        print(f"{name} tried: {tried}")
 
 
 # ---- wild: random chips and random work areas, with four blocks
@@ -103,13 +167,13 @@ class Random:
 
 def random_record(rng):
     note, key, value = rng.roll(4) == 0, rng.key(), rng.byte()
-    return record_page(2, key, b"") if note else record_page(1, key, value)
+    form = OLD if rng.roll(2) == 0 else NEW
+    return record_page(2, key, b"", form) if note else record_page(1, key, value, form)
 
 
 def odd_page(rng):
-    heading = [1 + rng.roll(4) // 3, 1 + rng.roll(3), rng.roll(18), max(rng.roll(196) - 98, 0)]
-    key, value = rng.key(), rng.byte()
-    return page_of(bytes(heading).ljust(16, b"\0") + key.ljust(16, b"\0") + value.ljust(96, b"\0"))
+    form, kind, key_len, value_len = 1 + rng.roll(3), 1 + rng.roll(3), rng.roll(18), max(rng.roll(444) - 222, 0)
+    return form_of(form, payload_of(form, kind, rng.key(), rng.byte(), key_len, value_len))
 
 
 def spoilt_page(rng):
@@ -308,7 +372,7 @@ class Area:
             page = page_at(self.chip, q)
             there, j = self.find(page[16 : 16 + min(page[2], 16)])
             if there and self.work[16 + j] == q:
-                if k == 15 or not self.write(16 * spare + k, page):
+                if k == 15 or not self.write(16 * spare + k, anew(page)):
                     return None
                 self.work[16 + j] = 16 * spare + k
                 k += 1
@@ -481,7 +545,7 @@ class Store(Area):
 NOISES = {"zeros": bytes(4096), "ones": b"\xff" * 4096, "mixed": bytes(i % 251 for i in range(4096))}
 
 
-def told(refusal, number):
+def answered(refusal, number):
     return f"refused {refusal}" if refusal else f"answers {number}"
 
 
@@ -497,10 +561,10 @@ def limits():
         elif verb == "noise":
             store.noise = noise_named(words[0])
         elif verb == "count":
-            end = ": " + told(*store.count())
+            end = ": " + answered(*store.count())
         elif verb == "get":
             refusal, n, buffer = store.get(spelt(words[0]), int(words[1]))
-            end = f": {told(refusal, n)}, buffer '{buffer}'"
+            end = f": {answered(refusal, n)}, buffer '{buffer}'"
         elif verb != "#":
             refusal = store.make(verb, words)
             end = f": refused {refusal}" if refusal else ": done"
@@ -575,5 +639,5 @@ def history():
             print(f"noise {name}{then}: as before the call {tally['before']}, as after it {tally['after']}, wrong 0")
 
 
-PROGRAMS = {"try_faults": faults, "try_history": history, "try_limits": limits, "try_pages": pages, "try_wild": wild}
+PROGRAMS = {"try_faults": faults, "try_history": history, "try_limits": limits, "try_one_byte": one_byte, "try_pages": pages, "try_wild": wild}
 PROGRAMS[sys.argv[1]]()

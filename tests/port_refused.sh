@@ -55,6 +55,8 @@ refused 'inline assembly' "$unknown" $module "$(blocks '  call void asm sideeffe
 refused 'global data' "$unknown" $module 's/^source_filename.*/&\n@g = global i64 0/'
 refused 'a foreign function' "$unknown" $module 's/^source_filename.*/&\ndeclare void @exit(i32)/'
 refused 'a call of nothing' "a function that it doesn't have" $module "$(blocks '  call void @exit(i32 1)')"
+refused "a function of the compiler's that isn't known here" "$unknown" $module "$(blocks '  %x = call i64 @llvm.ctlz.i64(i64 1, i1 false)')"
+refused 'a count of bits that is wider than its number' "$unknown" $module "$(blocks '  %x = call i64 @llvm.ctpop.i8(i8 1)')"
 refused "another processor's attribute" "$unknown" $module 's/"target-cpu"="x86-64"/"target-cpu"="skylake"/'
 refused 'a module that was not proved' "$unknown" $module 's/!"rattle logic=[0-9a-f]*"/!"rattle unproved"/'
 refused "a slice's pointer read as a number" 'part of a pointer in one line' $module \
@@ -95,7 +97,7 @@ refused 'the chip is copied from' "$looks chip" $module \
 refused 'the chip is filled' "$looks chip" $module "$(blocks '  %x = load ptr, ptr %a0, align 8\n  call void @llvm.memset.p0.i64(ptr %x, i8 0, i64 4, i1 false)')"
 refused 'a place within the chip' "$looks chip" $module "$(blocks '  %x = load ptr, ptr %a0, align 8\n  %y = getelementptr i8, ptr %x, i64 256')"
 refused 'the chip by way of a copy of its slice' "$looks chip" $module \
-  "$(blocks '  %x = alloca [16 x i8], align 8\n  call void @llvm.memmove.p0.p0.i64(ptr %x, ptr %a0, i64 16, i1 false)\n  call void @"page::fill"(ptr %x)')"
+  "$(blocks '  %x = alloca [16 x i8], align 8\n  call void @llvm.memmove.p0.p0.i64(ptr %x, ptr %a0, i64 16, i1 false)\n  call void @"page::fill"(ptr %x, i64 254)')"
 refused 'the chip by way of an answer in the area' "$looks chip" $module "$(blocks '  %x = load ptr, ptr %a0, align 8\n  store ptr %x, ptr %a1, align 8')"
 refused 'the work area is read as a chip' "$looks chip" $module "$(blocks '  call void @"chip::read"(ptr %a1, i64 0, ptr %a1)')"
 refused 'the chip is read into the chip' "$looks chip" $module "$(blocks '  call void @"chip::read"(ptr %a0, i64 0, ptr %a0)')"

@@ -19,6 +19,19 @@ with open(sys.argv[1], "r+b") as image:
         image.write(bytes([byte ^ x]))
 END2
 }
+# old IMAGE PAGE: the same record in the flipped form, as version 0.9.0 wrote it
+old() {
+  python3 - "$@" <<'END2'
+import sys
+with open(sys.argv[1], "r+b") as image:
+    image.seek(256 * int(sys.argv[2]))
+    half = bytes([1]) + image.read(128)[1:]
+    image.seek(256 * int(sys.argv[2]))
+    image.write(half + bytes(255 - x for x in half))
+END2
+}
+# what is xored with a page so that nothing of it can be read: it then has more bits 0 than it counts
+noise=$(printf 'a5%.0s' $(seq 1 254))0700
 # fill IMAGE N: puts k0 to k12 in turn with the numbers up to N; then k5 is deleted, and k6 put once more
 fill() {
   tool format "$1" 8 || complain "format $1"
@@ -56,26 +69,36 @@ shows note.img $'^key\tk5\t[0-9]+\toverridden by page '"$note"', which is spoilt
 shows note.img "^one bit  page $note .*: it said k5"$'\t\\(deleted\\)$'
 shows note.img $'^key\tk6\tsix\tsure$'
 shows note.img '^keys     13 with a newest record, 12 sure, 1 not;'
-cp s.img gone.img && harm gone.img $((256 * note)) "$(printf 'a5%.0s' $(seq 1 128))$(printf '5b%.0s' $(seq 1 128))"
+cp s.img gone.img && harm gone.img $((256 * note)) "$noise"
 shows gone.img $'^key\tk5\t[0-9]+\tunless one of 1 unreadable page after it that may be of this key is$'
 shows gone.img $'^key\tk6\tsix\tsure$'
 shows gone.img '^lost     1 of the pages that were written in the log can.t be read'
 if grep -q '^one bit' out; then complain "a page of noise was read"; fi
 
-# ---- a value spoilt in one bit of its text: it is read both ways
+# ---- a value spoilt in one bit of its text: with a flipped copy it is read both ways; a count tells that a bit is wrong and not which
 cp s.img value.img
+old value.img "$last" && tool list value.img | cmp -s - truth || complain "a page of the old form says something else"
 harm value.img $((256 * last + 32)) 01
 shows value.img "^one bit  page $last .*: it said k6"$'\t(six, or k6\trix|rix, or k6\tsix)$'
+cp s.img value.img
+harm value.img $((256 * last + 32)) 01
+shows value.img $'^key\tk6\t[0-9]+\tunless one of 1 unreadable page'
+if grep -q '^one bit' out; then complain "one of many readings was taken"; fi
+# a bit where zeros are due, or one of the count but its lowest, is found all the same
+for at in 99 254; do
+  cp s.img value.img
+  harm value.img $((256 * last + at)) 04
+  shows value.img "^one bit  page $last .*: it said k6"$'\tsix$'
+done
 
 tool format single.img 4 && tool put single.img alone here && harm single.img 200 80
 shows single.img $'^key\talone\there\tonly page 0 says so, which is spoilt in one bit'
 
-# ---- a write that was cut: what can be seen of its key keeps other keys sure
+# ---- a write that was cut: what can be seen of its key, which is where it has bits 0, keeps other keys sure
 cp s.img cut.img && tool put cut.img k3 cut --cut 1 --noise 5 2>/dev/null
 shows cut.img $'^key\tk3\t[0-9]+\tunless one of 1 unreadable page'
-shows cut.img $'^key\tk8\t[0-9]+\tsure$'
 sure=$(grep -c $'^key\tk.*\tsure$' out)
-[ "$sure" = 12 ] || complain "$sure keys are sure beside a cut write"
+[ "$sure" = 7 ] || complain "$sure keys are sure beside a cut write"
 
 # ---- a wrong block: of noise, and blank
 oldest=$(((head + 2) % 8)) middle=$(((head + 5) % 8))
@@ -96,7 +119,7 @@ for i in $(seq 45 75); do
   tool put copy.img other "$i"
 done
 copy=$(tool history copy.img keep | awk -F'\t' '$4 == "newest" { print $1 }')
-harm copy.img $((256 * copy)) "$(printf 'a5%.0s' $(seq 1 128))$(printf '5b%.0s' $(seq 1 128))"
+harm copy.img $((256 * copy)) "$noise"
 if tool get copy.img keep >/dev/null 2>&1; then complain "keep isn't lost"; fi
 shows copy.img $'^key\tkeep\tme\tLOST or never there: only the spare has it'
 shows copy.img '1 more that only the spare has$'

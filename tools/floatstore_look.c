@@ -190,16 +190,23 @@ static void print_hex(const uint8_t *page) {
     }
 }
 
-static void print_disagreement(const uint8_t *page) {
-    size_t bits = 0, bytes = 0, zeros = page_zeros(page);
-    printf("it says nothing: not blank, and not sound at byte");
-    for (size_t i = 0; i < 128; i++) {
-        unsigned same = (unsigned)(page[i] ^ page[128 + i]) ^ 255u;
-        for (unsigned rest = same; rest; rest &= rest - 1) bits++;
-        if (same && bytes++ < 8) printf(" %zu", i);
-    }
+/* Where the halves agree: the first eight bytes, and how many bits. */
+static void print_flips(const uint8_t *page) {
+    size_t first, bytes = 0, bits = flip_disagreement(page, &first);
+    printf("not sound at byte");
+    for (size_t i = 0; i < 128; i++)
+        if (page[i] + page[128 + i] != 255 && bytes++ < 8) printf(" %zu", i);
     if (bytes > 8) printf(" and %zu more", bytes - 8);
-    printf("; %zu bits from sound, %zu from blank\n", bits, zeros);
+    printf("; %zu bits from sound", bits);
+}
+
+static void print_disagreement(const uint8_t *page) {
+    size_t first;
+    printf("it says nothing: not blank, and ");
+    if (page[0] == COUNTED) printf("not sound: it counts %zu bits 0 and has %zu", page_count(page), payload_zeros(page));
+    else if (flip_disagreement(page, &first)) print_flips(page);
+    else printf("not sound: no form has the number %u", page[0]);
+    printf("; %zu bits from blank\n", page_zeros(page));
 }
 
 /* PAGE is a number, or BLOCK:PLACE. */

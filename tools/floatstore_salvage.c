@@ -1,7 +1,8 @@
 /* salvage: everything that can still be read on a chip, also where start refuses it.
  *
  * The guess at the ring: for each block as the head, in the first round and in a later one, count the bits that must be wrong for the chip to be that
- * ring by section 4 of docs/FORMAT.md (a block counts for 64 at most), and take the least. A page that is spoilt in one bit is read both ways. */
+ * ring by section 4 of docs/FORMAT.md (a block counts for 64 at most), and take the least. A page that is spoilt in one bit is read as what it may have been,
+ * where there are no more than two such things. */
 #include "floatstore_tool.h"
 #include <stdlib.h>
 #include <string.h>
@@ -27,9 +28,9 @@ static int in_log(const struct reading *r, size_t p) { return p % 16 < 15 && p /
 /* A head is blank for a moment only, between the seal of the block before it and its first record. */
 static int head_is_blank(void) { return s.best.next == 0 && (s.best.later || s.best.head > 0); }
 
-/* Whether a record may have been lost there: a page of the log that says nothing, though something was written to it. A page is written with as many
- * bits 0 as 1; one with fewer than WHOLE of them was never written to its end. A block but the head is full, and in the head no blank page stands
- * before a written one. */
+/* Whether a record may have been lost there: a page of the log that says nothing, though something was written to it. A page is written with 96 bits 0 at
+ * least, in bytes 4 to 15; one with fewer than WHOLE of them was never written to its end. A block but the head is full, and in the head no blank page
+ * stands before a written one. */
 static int unreadable(size_t p) {
     if (!in_log(&s.best, p) || page_says(page_at(p)) || s.one_bit[p]) return 0;
     size_t zeros = page_zeros(page_at(p));
@@ -42,7 +43,9 @@ static int compare_keys(const uint8_t *x, const uint8_t *y) {
     return order ? order : x[2] - y[2];
 }
 
-/* ---- a page that is spoilt in one bit: there are two pages that it may have been */
+static int says_the_same(const uint8_t *a, const uint8_t *b) { return compare_keys(a, b) == 0 && same_record(a, b); }
+
+/* ---- a page that is spoilt in one bit: with a flipped copy there are two pages that it may have been, with a count there may be many */
 
 struct repair {
     size_t page;
@@ -50,37 +53,43 @@ struct repair {
     uint8_t as[2][FLOATSTORE_PAGE];
 };
 
-/* How many bits of the halves agree where they must differ, and the last of them. */
-static size_t disagreement(const uint8_t *page, size_t *byte, uint8_t *bit) {
-    size_t bits = 0;
-    for (size_t i = 0; i < 128; i++)
-        for (unsigned mask = 1; mask < 256; mask *= 2)
-            if (((page[i] ^ page[128 + i]) & mask) == 0) bits++, *byte = i, *bit = (uint8_t)mask;
-    return bits;
-}
-
 /* The store writes zeros where nothing is said. */
 static int zeros_where_due(const uint8_t *page) {
-    for (size_t i = 4; i < 128; i++)
+    for (size_t i = 4; i < (page[0] == COUNTED ? 254 : 128); i++)
         if (page[i] && (i < 16 || (i < 32 && i >= 16u + page[2]) || i >= 32u + page[3])) return 0;
     return 1;
 }
 
-static int repair(struct repair *to, size_t p) {
-    size_t byte = 0;
-    uint8_t bit = 0;
-    if (s.best.kinds[p] != SPOILT || disagreement(page_at(p), &byte, &bit) != 1) return 0;
-    *to = (struct repair){.page = p};
-    int fits[2];
-    for (int i = 0; i < 2; i++) {
-        memcpy(to->as[i], page_at(p), FLOATSTORE_PAGE);
-        to->as[i][i ? byte : 128 + byte] ^= bit;
-        fits[i] = page_says(to->as[i]) && zeros_where_due(to->as[i]);
-    }
-    if (!fits[0] && !fits[1]) return 0;
-    if (!fits[0]) memcpy(to->as[0], to->as[1], FLOATSTORE_PAGE);
-    to->two = fits[0] && fits[1] && (compare_keys(to->as[0], to->as[1]) != 0 || !same_record(to->as[0], to->as[1]));
+/* Whether a page may be sound but for one bit, seen without trying each: one bit of the halves agrees, or the count is off by one or in one bit. */
+static int one_bit_apart(const uint8_t *page) {
+    size_t first, said = page_count(page), has = payload_zeros(page), apart = said > has ? said - has : has - said;
+    return flip_disagreement(page, &first) == 1 || (apart & (apart - 1)) == 0;
+}
+
+/* A page that it may have been: kept if it says something that none before it said. Answers whether there are two at most. */
+static int keep_reading(struct repair *to, size_t *kept, const uint8_t *page) {
+    if (!page_says(page) || !zeros_where_due(page)) return 1;
+    for (size_t i = 0; i < *kept; i++)
+        if (says_the_same(to->as[i], page)) return 1;
+    if (*kept == 2) return 0;
+    memcpy(to->as[(*kept)++], page, FLOATSTORE_PAGE);
     return 1;
+}
+
+/* All pages that are one bit from it are tried. */
+static int repair(struct repair *to, size_t p) {
+    uint8_t page[FLOATSTORE_PAGE];
+    size_t kept = 0;
+    memcpy(page, page_at(p), FLOATSTORE_PAGE);
+    if (!one_bit_apart(page)) return 0;
+    *to = (struct repair){.page = p};
+    for (size_t bit = 0; bit < 8 * FLOATSTORE_PAGE; bit++) {
+        page[bit / 8] ^= (uint8_t)(1u << bit % 8);
+        if (!keep_reading(to, &kept, page)) return 0;
+        page[bit / 8] ^= (uint8_t)(1u << bit % 8);
+    }
+    to->two = kept == 2;
+    return kept > 0;
 }
 
 static void repair_all(void) {
@@ -107,7 +116,7 @@ static int spare_may_be_head(void) {
     if (!s.best.later || block_is_sealed(image.chip, spare)) return 0;
     for (size_t p = 16 * spare; p < 16 * spare + 15; p++) {
         int known = !page_says(page_at(p));
-        for (size_t q = 16 * s.best.oldest; !known && q < 16 * s.best.oldest + 15; q++) known = memcmp(page_at(p), page_at(q), FLOATSTORE_PAGE) == 0;
+        for (size_t q = 16 * s.best.oldest; !known && q < 16 * s.best.oldest + 15; q++) known = page_says(page_at(q)) && says_the_same(page_at(p), page_at(q));
         if (!known) return 1;
     }
     return 0;
@@ -183,27 +192,34 @@ static int by_key_then_age(const void *a, const void *b) {
     return log_place(&s.best, p) < log_place(&s.best, q) ? -1 : 1;
 }
 
-/* A write that was cut, like charge that was lost, leaves bits 1 that should be 0, and never the other way round: where the halves differ, such a page is
- * right. One with two bits 0 where they must differ was hurt otherwise, as was one that is sound and no record: it may have been anything. */
-static int rises_only(const uint8_t *page) {
-    if (page_is_sound(page)) return 0;
+/* A write that was cut, like charge that was lost, leaves bits 1 that should be 0, and never the other way round. By byte 0 such a page may have been of the
+ * flipped form, of the count form, or of both. One with two bits 0 where the halves must differ, or with more bits 0 than it counts, was hurt otherwise, as
+ * was one that is sound and no record: it may have been anything. */
+static int rises_from(const uint8_t *page, enum form form) {
+    if (page_is_sound(page) || !(page[0] & form)) return 0;
+    if (form == COUNTED) return payload_zeros(page) < page_count(page);
     for (size_t i = 0; i < 128; i++)
         if ((page[i] | page[128 + i]) != 255) return 0;
     return 1;
 }
 
-static int byte_may_be(const uint8_t *page, size_t i, uint8_t byte) {
-    uint8_t known = (uint8_t)(page[i] ^ page[128 + i]);
+static int rises_only(const uint8_t *page) { return rises_from(page, FLIPPED) || rises_from(page, COUNTED); }
+
+/* Of the flipped form a bit is known where the halves differ, of the count form where it is 0. */
+static int byte_may_be(const uint8_t *page, enum form form, size_t i, uint8_t byte) {
+    uint8_t known = (uint8_t)(form == FLIPPED ? page[i] ^ page[128 + i] : ~page[i]);
     return ((page[i] ^ byte) & known) == 0;
 }
 
-/* Whether a page that rises only may be a record of the key. */
-static int may_be_of(const uint8_t *page, const uint8_t *key_page) {
-    if (!byte_may_be(page, 2, key_page[2])) return 0;
+static int may_be_in(const uint8_t *page, enum form form, const uint8_t *key_page) {
+    if (!rises_from(page, form) || !byte_may_be(page, form, 2, key_page[2])) return 0;
     for (size_t i = 16; i < 16u + key_page[2]; i++)
-        if (!byte_may_be(page, i, key_page[i])) return 0;
+        if (!byte_may_be(page, form, i, key_page[i])) return 0;
     return 1;
 }
+
+/* Whether a page that rises only may be a record of the key. */
+static int may_be_of(const uint8_t *page, const uint8_t *key_page) { return may_be_in(page, FLIPPED, key_page) || may_be_in(page, COUNTED, key_page); }
 
 static void collect(void) {
     size_t pages = 16 * image.blocks;

@@ -6,7 +6,8 @@ OUT/floatstore.ll, the chip in memory, and OUT/floatstore_driver.ll, the chip be
 a number of bytes with an alignment, a field is reached by a number of bytes, a slice is 16 bytes, its pointer at 0 and its length, an i64, at 8. A narrower
 pointer takes less of its 8 bytes, and whoever copies a place copies all of it. So nothing changes as long as no pointer becomes a number or a number a pointer,
 no type has a size that LLVM takes from the target but ptr itself, no byte of a place is part of a pointer here and of a number there, pointers stand in such
-places only and not in what is lent, and there is no global data, no inline assembly, and no call but of the module's own functions, memmove, memset and trap.
+places only and not in what is lent, and there is no global data, no inline assembly, and no call but of the module's own functions, memmove, memset, trap and
+ctpop, which counts the bits of a number.
 A number of bytes that is added to a pointer is an i64, of which 32 bits are taken: right for every object that lies in the memory.
 
 2. The headers must declare what the module exports. Then what names x86-64 goes, and where BITS is 32 each exported function gets one of its name before it
@@ -45,6 +46,7 @@ INSIDE = [
     rf"(?:{P} = )?call (?:void|{T}) {NAME}\((?:{T} {V}(?:, {T} {V})*)?\)",
     rf"call void @llvm\.memmove\.p0\.p0\.i64\(ptr {P}, ptr {P}, i64 {V}, i1 false\)",
     rf"call void @llvm\.memset\.p0\.i64\(ptr {P}, i8 {V}, i64 {V}, i1 false\)",
+    rf"{P} = call (?:i8 @llvm\.ctpop\.i8\(i8|i64 @llvm\.ctpop\.i64\(i64) {V}\)",
     r"call void @llvm\.trap\(\)(?: #\d+)?",
 ]
 PARAMETER = rf"{T} noundef(?: zeroext)? {P}"
@@ -59,6 +61,7 @@ OUTSIDE = [
     r"\}",
     r"[\w.]+:(?:\s+; preds = .*)?",
     r"declare void @llvm\.(?:memmove|memset|trap)[\w.]*\(.*\) #[1-9]",
+    r"declare (?:i8 @llvm\.ctpop\.i8\(i8|i64 @llvm\.ctpop\.i64\(i64)\) #[1-9]",
     r'attributes #0 = \{ nounwind "probe-stack"="inline-asm" "target-cpu"="x86-64" \}',
     r"attributes #[1-9] = \{[\w (),:]*\}",
     r"!llvm\.ident = !\{!0\}",

@@ -8,16 +8,46 @@ int page_is_blank(const uint8_t *page) {
     return 1;
 }
 
-int page_is_sound(const uint8_t *page) {
-    for (size_t i = 0; i < 128; i++)
-        if (page[i] + page[128 + i] != 255) return 0;
-    return 1;
+/* ---- the two forms (section 1) */
+
+size_t flip_disagreement(const uint8_t *page, size_t *first) {
+    size_t bits = 0;
+    *first = 128;
+    for (size_t i = 128; i-- > 0;) {
+        unsigned same = (unsigned)(page[i] ^ page[128 + i]) ^ 255u;
+        if (same) *first = i;
+        for (; same; same &= same - 1) bits++;
+    }
+    return bits;
 }
+
+static size_t zeros_of(const uint8_t *bytes, size_t len) {
+    size_t zeros = 0;
+    for (size_t i = 0; i < len; i++) zeros += (size_t)__builtin_popcount(255u - bytes[i]);
+    return zeros;
+}
+
+size_t payload_zeros(const uint8_t *page) { return zeros_of(page, 254); }
+size_t page_count(const uint8_t *page) { return 256u * page[254] + page[255]; }
+
+int page_is_sound(const uint8_t *page) {
+    size_t first;
+    if (page[0] == FLIPPED) return flip_disagreement(page, &first) == 0;
+    return page[0] == COUNTED && page_count(page) == payload_zeros(page);
+}
+
+size_t page_spoilt_at(const uint8_t *page) {
+    size_t first;
+    if (page[0] == COUNTED) return 254;
+    return flip_disagreement(page, &first) ? first : 0;
+}
+
+size_t longest_value(const uint8_t *page) { return page[0] == COUNTED ? 220 : 96; }
 
 /* Section 3 of the format. */
 int page_says(const uint8_t *page) {
-    if (!page_is_sound(page) || page[0] != 1 || page[2] < 1 || page[2] > 16) return 0;
-    if (page[1] == 1 && page[3] <= 96) return 1;
+    if (!page_is_sound(page) || page[2] < 1 || page[2] > 16) return 0;
+    if (page[1] == 1 && page[3] <= longest_value(page)) return 1;
     return page[1] == 2 && page[3] == 0 ? 2 : 0;
 }
 
@@ -89,7 +119,7 @@ static char kind_of(const uint8_t *page) {
     if (!page_is_sound(page)) return SPOILT;
     int what = page_says(page);
     if (what) return what == 1 ? OLD : NOTE;
-    return page[0] == 1 && page[1] == 3 ? SEAL : OTHER;
+    return page[1] == 3 ? SEAL : OTHER;
 }
 
 static int read_pages(struct reading *r, const uint8_t *chip, size_t blocks) {
@@ -132,12 +162,7 @@ size_t log_page(const struct reading *r, size_t place) { return 16 * ((place / 1
 
 /* ---- guesses at the ring */
 
-size_t page_zeros(const uint8_t *page) {
-    size_t zeros = 0;
-    for (size_t i = 0; i < 256; i++)
-        for (unsigned rest = 255u - page[i]; rest; rest &= rest - 1) zeros++;
-    return zeros;
-}
+size_t page_zeros(const uint8_t *page) { return zeros_of(page, 256); }
 
 static size_t at_most_whole(size_t bits) { return bits < WHOLE ? bits : WHOLE; }
 

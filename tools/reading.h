@@ -28,6 +28,19 @@ struct reading {
 int page_is_blank(const uint8_t *page);
 int page_is_sound(const uint8_t *page);
 
+/* Byte 0 of a page: its form, by which it is tested. */
+enum form { FLIPPED = 1, COUNTED = 2 };
+
+/* The flipped form: how many bits of a page agree with their copy, from which each must differ; and the first byte with one, 128 if there is none. */
+size_t flip_disagreement(const uint8_t *page, size_t *first);
+
+/* The count form: how many bits of the payload are 0, and how many its last two bytes say. */
+size_t payload_zeros(const uint8_t *page);
+size_t page_count(const uint8_t *page);
+
+size_t page_spoilt_at(const uint8_t *page); /* of a spoilt page: the byte that start_seeing tells */
+size_t longest_value(const uint8_t *page); /* by its form */
+
 /* Reads a chip of an allowed size. Answers 0 where memory is short. */
 int read_chip(struct reading *r, const uint8_t *chip, size_t blocks);
 void forget_reading(struct reading *r);

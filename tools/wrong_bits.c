@@ -1,4 +1,4 @@
-/* What a wrong bit does: each bit of a chip is flipped, alone, and the chip is started. Outside the fault model (docs/FAULTS.md), which knows no bits that
+/* What a wrong bit does: each bit of a chip is flipped, alone, and the chip is started; and which two wrong bits of one page leave it sound, in each form. Outside the fault model (docs/FAULTS.md), which knows no bits that
  * change by themselves: nothing is promised here, and what is counted is the yardstick for a stronger model. The map is compared with a plain copy. */
 #define _XOPEN_SOURCE 700
 #include "chance.h"
@@ -160,8 +160,46 @@ static void try_chip(const char *title, size_t b, uint32_t calls, int later) {
     forget_reading(&r);
 }
 
+/* ---- two bits of a page */
+
+/* The page of a value, in a form. */
+static void make_page(uint8_t *page, enum form form) {
+    memset(page, 0, FLOATSTORE_PAGE);
+    page[0] = (uint8_t)form, page[1] = 1, page[2] = KEY_LEN;
+    key_bytes(page + 16, 0);
+    page[3] = (uint8_t)value_bytes(page + 32, 1);
+    page[32 + page[3]] = 0;
+    for (size_t i = 0; form == FLIPPED && i < 128; i++) page[128 + i] = (uint8_t)~page[i];
+    if (form == COUNTED) page[254] = (uint8_t)(payload_zeros(page) / 256), page[255] = (uint8_t)(payload_zeros(page) % 256);
+    if (page_says(page) != 1) fail("a page of the format says something else");
+}
+
+enum pair { BOTH_RISE, BOTH_FALL, ONE_EACH, PAIRS };
+
+static void flip(uint8_t *page, size_t bit) { page[bit / 8] ^= (uint8_t)(1u << bit % 8); }
+
+static void print_pairs(const char *name, enum form form) {
+    uint8_t page[FLOATSTORE_PAGE];
+    size_t all[PAIRS] = {0}, sound[PAIRS] = {0};
+    make_page(page, form);
+    for (size_t a = 0; a < 8 * FLOATSTORE_PAGE; a++)
+        for (size_t b = a + 1; b < 8 * FLOATSTORE_PAGE; b++) {
+            int x = page[a / 8] >> a % 8 & 1, y = page[b / 8] >> b % 8 & 1;
+            enum pair pair = x != y ? ONE_EACH : x ? BOTH_FALL : BOTH_RISE;
+            flip(page, a), flip(page, b);
+            all[pair]++, sound[pair] += (size_t)page_is_sound(page);
+            flip(page, a), flip(page, b);
+        }
+    printf("| %s", name);
+    for (int i = 0; i < PAIRS; i++) printf(" | %zu of %zu", sound[i], all[i]);
+    printf(" |\n");
+}
+
 int main(void) {
     try_chip("A later round", 8, 400, 1);
     try_chip("The first round", 8, 52, 0);
+    printf("Two bits of a page\n\n| sound with two wrong bits | both rise | both fall | one each |\n|---|---|---|---|\n");
+    print_pairs("the flipped copy", FLIPPED);
+    print_pairs("the count", COUNTED);
     return 0;
 }

@@ -1,11 +1,13 @@
 /* The crash laboratory: random histories of a store on chips of 4, 5, 8 and 16 blocks, beside a model of its map that shares nothing with it.
  *
  * Each put and delete is cut at every one of its operations, on copies of the chip, with noise that an adversary chose; a cut erase leaves forged blocks (docs/FAULTS.md).
+ * Pages of the chip are turned to the old form on the way, and some that say nothing are made to look sound in the form that they haven't (docs/FORMAT.md).
  * After each cut the map must be the one before or the one after, and then the call is tried again and cut again, three deep. The history itself goes on whole or through
  * a cut. What the store does to the chip is seen from outside (tools/watch.h): erases and writes are counted without a word from the store, and a write to a page that
  * isn't blank is found. Two programs bring it a store: stores.c and driven.c. */
 #include "lab.h"
 #include "chance.h"
+#include "reading.h"
 #include <stdarg.h>
 #include <stdio.h>
 #include <stdlib.h>
@@ -55,7 +57,7 @@ int64_t run(struct world *w, const struct change *c, const uint8_t *noise) {
 /* ---- what is found ends the run, with the way to it */
 
 static struct {
-    uint64_t seed, calls, changes, failures, histories, cuts, nested, forged;
+    uint64_t seed, calls, changes, failures, histories, cuts, nested, forged, aged, crossed;
     const char *name, *at;
 } tally;
 
@@ -121,10 +123,11 @@ void mirror(const struct store *other, const struct did *d) {
 
 /* ---- the adversary's noise. A cut write leaves new | noise; a cut erase leaves the noise itself, so that any block can be forged */
 
-enum { ONES, ZEROS, PAGES, ONE_KEPT, ONE_CLEARED, SPARSE_ONES, SPARSE_ZEROS, PREFIX, BITS, NOISES };
+enum { ONES, ZEROS, PAGES, ONE_KEPT, ONE_CLEARED, SPARSE_ONES, SPARSE_ZEROS, PREFIX, BITS, HALVES, BY_256, NOISES };
 enum { AS_IT_WAS = NOISES, TO_ONES, TO_ZEROS, NEWER, NOTES, ANOTHER, SEALED, UNSEALED, MIXTURE, KINDS }; /* for erases alone: forged blocks */
 static const char *const noises[KINDS] = {
     "all ones", "all zeros", "page by page", "one page of zeros", "one page of ones", "few ones", "few zeros", "cut at a byte", "random bits",
+    "a flipped copy made", "256 bits too many",
     "the block as it was", "some bits of the block turned to 1", "some bits of the block turned to 0", "newer values", "notes of deletion", "a copy of another block",
     "a sealed block of records", "a full block that isn't sealed", "all of these at once",
 };
@@ -147,16 +150,69 @@ static void fill_noise(uint8_t *noise, int kind) {
         }
 }
 
-/* A sound page by docs/FORMAT.md: 1 a value, 2 a note, 3 a seal. */
-static void forge_page(uint8_t *page, uint8_t kind, size_t i) {
+/* ---- the two forms, by docs/FORMAT.md */
+
+static void fill_flips(uint8_t *page) {
+    page[0] = FLIPPED;
+    for (size_t j = 0; j < 128; j++) page[128 + j] = 255 - page[j];
+}
+
+static void fill_count(uint8_t *page) {
+    page[0] = COUNTED;
+    page[254] = (uint8_t)(payload_zeros(page) / 256), page[255] = (uint8_t)(payload_zeros(page) % 256);
+}
+
+/* A sound page of a form: 1 a value, 2 a note, 3 a seal. */
+static void forge_page(uint8_t *page, enum form form, uint8_t kind, size_t i) {
     uint8_t key[16];
     size_t key_len = key_of(i, key);
-    memset(page, 0, 128);
-    page[0] = 1, page[1] = kind;
+    memset(page, 0, PAGE);
+    page[0] = (uint8_t)form, page[1] = kind;
     if (kind != 3) page[2] = (uint8_t)key_len, memcpy(page + 16, key, key_len);
-    if (kind == 1) page[3] = (uint8_t)chance(97);
+    if (kind == 1) page[3] = (uint8_t)chance((uint32_t)longest_value(page) + 1);
     for (size_t j = 0; j < page[3]; j++) page[32 + j] = (uint8_t)chance(256);
-    for (size_t j = 0; j < 128; j++) page[128 + j] = 255 - page[j];
+    if (form == FLIPPED) fill_flips(page);
+    else fill_count(page);
+}
+
+static enum form any_form(void) { return chance(2) ? FLIPPED : COUNTED; }
+
+/* A page of the count form as a cut write may leave it: some bits of key, value or form stay 1, and so many more that the halves are each other's flipped copy.
+ * (Where the value goes beyond byte 127 they may not be.) */
+static void make_halves(uint8_t *page) {
+    for (size_t i = 1 + chance(4); i > 0; i--) page[chance(3) ? 32 + chance(page[3] % 96 + 1u) : chance(3) ? 16 + chance(16) : 0] |= (uint8_t)(1u << chance(8));
+    for (size_t j = 0; j < 128; j++) page[128 + j] |= (uint8_t)(255 - page[j]);
+}
+
+/* A page of the count form as a cut write may leave it: 256 of its bits stay 1, so that the low byte of the count is right. */
+static void raise_256(uint8_t *page) {
+    size_t zeros = 0;
+    for (size_t i = 32; i < 254; i++)
+        for (unsigned rest = 255u - page[i]; rest; rest &= rest - 1) zeros++;
+    for (size_t left = zeros < 256 ? 0 : 256; left > 0;) {
+        size_t bit = 8 * 32 + chance(8 * (254 - 32));
+        left -= !(page[bit / 8] >> bit % 8 & 1);
+        page[bit / 8] |= (uint8_t)(1u << bit % 8);
+    }
+}
+
+/* A page of the old form whose payload ends in two bytes 0xFF, as a cut write may leave it: its last two bytes are the number of the 0 bits before them. */
+static void count_old(uint8_t *page) {
+    page[126] = page[127] = 0xFF;
+    fill_flips(page);
+    page[254] = (uint8_t)(payload_zeros(page) / 256), page[255] = (uint8_t)(payload_zeros(page) % 256);
+}
+
+/* A page that says nothing: of one form, cut short, and sound but for that in the other; or one of the old form whose second half is cut short. */
+static void forge_crossed(uint8_t *page, size_t i) {
+    uint32_t how = chance(3);
+    forge_page(page, how == 0 ? COUNTED : FLIPPED, 1, i);
+    if (how == 0 && page[3] > 94) page[3] = (uint8_t)chance(95), memset(page + 32 + page[3], 0, 222u - page[3]), fill_count(page);
+    if (how == 0) make_halves(page);
+    if (how == 1) count_old(page);
+    if (how == 2) page[3] = 96, fill_flips(page), page[64 + chance(64)] |= 1, page[192 + chance(64)] |= 2;
+    if (how == 2 && page_is_sound(page)) page[100] = 0xFF, page[228] = 1;
+    if (page_is_sound(page)) found("a page that is no good for a trial was forged");
 }
 
 /* A key that has a value, if there is one: of it an adversary lies. */
@@ -169,9 +225,10 @@ static size_t key_in_use(const struct map *m) {
 
 /* Page j of the block, forged: of every kind there is. */
 static void forge_any(uint8_t *page, const struct world *w, const uint8_t *old, size_t j, const struct map *m) {
-    uint32_t kind = chance(9);
-    if (kind < 3) forge_page(page, (uint8_t)(kind + 1), key_in_use(m));
-    if (kind == 3) forge_page(page, 1, chance(KEYS));
+    uint32_t kind = chance(10);
+    if (kind < 3) forge_page(page, any_form(), (uint8_t)(kind + 1), key_in_use(m));
+    if (kind == 3) forge_page(page, any_form(), 1, chance(KEYS));
+    if (kind == 9) forge_crossed(page, key_in_use(m));
     if (kind == 4) memcpy(page, w->chip + PAGE * (size_t)chance((uint32_t)(w->chip_len / PAGE)), PAGE);
     if (kind == 5) memcpy(page, old + PAGE * j, PAGE);
     if (kind == 6) memset(page, 0xFF, PAGE);
@@ -195,9 +252,9 @@ static void turn_bits(uint8_t *noise, const uint8_t *old, int to) {
 static void forge_pages(uint8_t *noise, int kind, const struct map *m) {
     for (size_t j = 0; j < 16; j++) {
         size_t key = kind >= SEALED && chance(2) ? chance(KEYS) : key_in_use(m);
-        forge_page(noise + PAGE * j, kind == NEWER ? 1 : kind == NOTES ? 2 : (uint8_t)(1 + chance(2)), key);
+        forge_page(noise + PAGE * j, any_form(), kind == NEWER ? 1 : kind == NOTES ? 2 : (uint8_t)(1 + chance(2)), key);
     }
-    if (kind == SEALED) forge_page(noise + PAGE * 15, 3, 0);
+    if (kind == SEALED) forge_page(noise + PAGE * 15, any_form(), 3, 0);
     if (kind == UNSEALED || (kind != SEALED && chance(3) == 0)) memset(noise + PAGE * 15, 0xFF, PAGE);
 }
 
@@ -261,6 +318,20 @@ static void check_wear(void) {
 
 /* ---- cuts */
 
+static struct world meant;
+
+/* Noise that is made for the page that is written: what it should be is seen on a copy. */
+static void craft_noise(uint8_t *noise, int kind, const struct world *w, const struct change *c, size_t k, const struct op *op) {
+    static const uint8_t zeros[FLOATSTORE_NOISE];
+    copy_world(&meant, w);
+    meant.fuse = k + 1;
+    run(&meant, c, zeros);
+    memset(noise, 0, FLOATSTORE_NOISE);
+    memcpy(noise, meant.chip + PAGE * op->at, PAGE);
+    if (kind == HALVES) make_halves(noise);
+    else raise_256(noise);
+}
+
 /* A kind of noise for an operation: forged blocks are for erases. */
 static int kind_for(const struct op *op) { return (int)chance(op->kind == ERASE ? KINDS : NOISES); }
 
@@ -272,7 +343,8 @@ static void cut(struct world *w, struct map *m, const struct change *c, size_t k
     tally.at = at;
     tally.cuts++;
     tally.forged += kind >= NOISES;
-    if (kind < NOISES) fill_noise(noise, kind);
+    if ((kind == HALVES || kind == BY_256) && op->kind == WRITE) craft_noise(noise, kind, w, c, k, op);
+    else if (kind < NOISES) fill_noise(noise, kind);
     else forge_block(noise, kind, w, op->at, m);
     w->fuse = k;
     if (run(w, c, noise) != -7 || w->fuse != 0) found("the call that was cut does not answer -7");
@@ -322,6 +394,24 @@ static void cut_deep(const struct world *w, const struct map *m, const struct ch
     struct op next;
     if (!watch_one(&next, at, call_again, &again, there)) found("after a cut and a start an operation is neither an erase nor a write");
     cut_deep(there, then, &again, at, &next, kind_for(&next), depth + 1);
+}
+
+/* ---- an old chip */
+
+/* Pages of the chip are turned to the old form; and some that say nothing, or what a later one overrides, to ones that look sound in the form that they haven't.
+ * The map stays. */
+static void age(void) {
+    struct reading r;
+    if (!read_chip(&r, now.chip, blocks)) found("no memory");
+    for (size_t p = 0; p < 16 * blocks; p++) {
+        uint8_t *page = now.chip + PAGE * p;
+        int old = r.kinds[p] == OLD && !r.newest[p] && p / 16 != r.spare;
+        if ((r.kinds[p] == SPOILT || (old && chance(4) == 0)) && p % 16 < 15) forge_crossed(page, key_in_use(&map)), tally.crossed++;
+        else if (page[0] == COUNTED && page_is_sound(page) && page[3] <= 96 && chance(2)) fill_flips(page), tally.aged++;
+    }
+    forget_reading(&r);
+    if (start(&now) != 0) found("start of an old chip is refused");
+    if (!same(&now, &map)) found("an old chip has another map");
 }
 
 /* ---- a history */
@@ -418,6 +508,7 @@ static void history(uint64_t seed) {
     uint32_t risk = risks[chance(4)];
     for (int phase = 0; phase < 4; phase++) {
         /* few keys, many, all that there is room for, more; in one phase the store is filled and one key put over and over */
+        if (chance(2)) age();
         size_t keys = phase == 2 ? 1 : chance(3) ? 1 + chance((uint32_t)room + 4) : room + chance(8);
         uint32_t deletes = chance(3) ? chance(60) : 0;
         for (size_t i = 0; phase == 2 && i < room; i++) {
@@ -441,6 +532,8 @@ static void history(uint64_t seed) {
 static void report(void) {
     printf("%s: %llu histories, %llu cuts survived, %llu of them nested, %llu of them erases that left a forged block; nothing found\n", tally.name,
            (unsigned long long)tally.histories, (unsigned long long)tally.cuts, (unsigned long long)tally.nested, (unsigned long long)tally.forged);
+    printf("  %llu pages turned to the old form on the way, and %llu made to look sound in the form that they haven't\n", (unsigned long long)tally.aged,
+           (unsigned long long)tally.crossed);
     for (size_t b = 4; b <= MAX_B; b++)
         if (worst[b].writes)
             printf("  %2zu blocks, worst and bound: a call's erases %zu of %zu, its page writes %zu of %zu; unevenness %zu of 1 with no power failure, %zu of %zu with; all erases %zu%% of n/7 + q\n",
@@ -450,7 +543,7 @@ static void report(void) {
 int laboratory(const char *name, const struct store *tried, const char *seconds, const char *first) {
     store = tried;
     tally.name = name;
-    int room = make_world(&now, MAX_B) && make_world(&whole, MAX_B);
+    int room = make_world(&now, MAX_B) && make_world(&whole, MAX_B) && make_world(&meant, MAX_B);
     for (int i = 0; i < DEPTH; i++) room = room && make_world(&worlds[i], MAX_B);
     if (!room) return fprintf(stderr, "lab: no memory\n"), 2;
     time_t until = time(NULL) + atoi(seconds);

@@ -6,16 +6,18 @@ const char *const twin_bugs[BUGS] = {
     "none",
     "the head is sealed before the last copy",
     "start believes the spare",
-    "half of the flipped copy is compared",
+    "the low byte of the count alone is compared",
     "a spare whose first page is blank isn't erased",
     "the spare is erased twice",
     "the spare is erased in the first round too",
+    "a page is believed that is sound in either form, whatever byte 0 says",
+    "of an old page half of the flipped copy is compared",
 };
 
 /* The words of the work area. The index is in no order: a twin needn't be fast. */
 enum { MARK, HEAD, NEXT, KEYS, INDEX = 16 };
 enum { NOT_STARTED, READY, DARK };
-enum { PLACES = 15, PAGE = 256, BLOCK = 4096, VALUE = 1, NOTE = 2, SEAL = 3 };
+enum { PLACES = 15, PAGE = 256, BLOCK = 4096, COUNT = 254, OLD_LONGEST = 96, LONGEST = 220, VALUE = 1, NOTE = 2, SEAL = 3 };
 
 static size_t blocks(size_t chip_len, size_t work_len) {
     size_t b = chip_len / BLOCK;
@@ -44,25 +46,45 @@ static int is_blank(const uint8_t *page) {
     return 1;
 }
 
-static int is_sound(const uint8_t *page) {
-    for (size_t i = 0; i < (twin_bug == HALF_SOUND ? 64 : 128); i++)
+/* The old form: bytes 128 to 255 are the flipped copy of those before them. */
+static int is_flipped(const uint8_t *page) {
+    for (size_t i = 0; i < (twin_bug == HALF_FLIPPED ? 64 : 128); i++)
         if (page[128 + i] != 255 - page[i]) return 0;
     return 1;
 }
 
+static unsigned zero_bits(const uint8_t *page) {
+    static const uint8_t of[16] = {4, 3, 3, 2, 3, 2, 2, 1, 3, 2, 2, 1, 2, 1, 1, 0};
+    unsigned zeros = 0;
+    for (int i = 0; i < COUNT; i++) zeros += of[page[i] / 16] + of[page[i] % 16];
+    return zeros;
+}
+
+/* The new form: the last two bytes are the number of the 0 bits before them. */
+static int is_counted(const uint8_t *page) {
+    unsigned zeros = zero_bits(page);
+    return (twin_bug == HALF_COUNTED || page[COUNT] == zeros / 256) && page[COUNT + 1] == zeros % 256;
+}
+
+static int is_sound(const uint8_t *page) {
+    if (twin_bug == EITHER_FORM) return is_flipped(page) || is_counted(page);
+    return page[0] == 1 ? is_flipped(page) : page[0] == 2 && is_counted(page);
+}
+
 /* VALUE, NOTE, or 0 for nothing */
 static int says(const uint8_t *page) {
-    if (page[0] != 1 || page[2] < 1 || page[2] > 16 || !is_sound(page)) return 0;
-    if (page[1] == VALUE && page[3] <= 96) return VALUE;
+    if (page[2] < 1 || page[2] > 16 || !is_sound(page)) return 0;
+    if (page[1] == VALUE && page[3] <= (page[0] == 1 ? OLD_LONGEST : LONGEST)) return VALUE;
     return page[1] == NOTE && page[3] == 0 ? NOTE : 0;
 }
 
 static void fill_page(uint8_t *page, int kind, const uint8_t *key, size_t key_len, const uint8_t *value, size_t value_len) {
-    memset(page, 0, 128);
-    page[0] = 1, page[1] = (uint8_t)kind, page[2] = (uint8_t)key_len, page[3] = (uint8_t)value_len;
+    memset(page, 0, PAGE);
+    page[0] = 2, page[1] = (uint8_t)kind, page[2] = (uint8_t)key_len, page[3] = (uint8_t)value_len;
     memcpy(page + 16, key, key_len);
     memcpy(page + 32, value, value_len);
-    for (int i = 0; i < 128; i++) page[128 + i] = (uint8_t)~page[i];
+    unsigned zeros = zero_bits(page);
+    page[COUNT] = (uint8_t)(zeros / 256), page[COUNT + 1] = (uint8_t)(zeros % 256);
 }
 
 static int is_sealed(const uint8_t *chip, size_t block) { return !is_blank(chip + BLOCK * block + PAGE * PLACES); }
@@ -143,8 +165,9 @@ static int open_next(uint8_t *chip, size_t b, uint32_t *work, uint64_t *fuse, co
         for (i = 0; i < work[KEYS] && work[INDEX + i] != from; i++) {}
         if (i == work[KEYS]) continue;
         if (twin_bug == SEALS_EARLY && copies + 1 == live) chip_write(chip, 16 * h + PLACES, page, fuse, noise);
+        const uint8_t *old = chip + PAGE * from;
         uint8_t copy[PAGE];
-        memcpy(copy, chip + PAGE * from, PAGE);
+        fill_page(copy, VALUE, old + 16, old[2], old + 32, old[3]);
         chip_write(chip, to, copy, fuse, noise);
         work[INDEX + i] = (uint32_t)to;
         copies++;

@@ -9,10 +9,12 @@ enum {
     RIGHT,
     SEALS_EARLY, /* the head is sealed before the last live value is copied */
     READS_SPARE, /* start believes what stands in the spare: a deleted key comes back */
-    HALF_SOUND, /* the flipped copy of the first 64 bytes alone is compared: mixed values */
+    HALF_COUNTED, /* the low byte of the count alone is compared: mixed values */
     TRUSTS_BLANK, /* the spare isn't erased if its first page reads blank */
     ERASES_TWICE, /* the spare is erased twice, to be sure: right, but it wears unevenly */
     ERASES_BLANK, /* the spare is erased in the first round too, where it is blank: right while a cut erase only turned bits from 0 to 1 */
+    EITHER_FORM, /* a page is believed that is sound in either form, whatever byte 0 says: mixed values, by cuts that were made for it */
+    HALF_FLIPPED, /* of an old page the flipped copy of the first 64 bytes alone is compared: mixed values on old chips */
     BUGS
 };
 extern int twin_bug;

@@ -37,15 +37,24 @@ static int answer(void) {
     failures++;
     return 1;
 }
-/* A record, sound but for its lengths, which may be any. */
+/* The page of its payload, in the form that byte 0 says. */
+static void fill(uint8_t page[256]) {
+    unsigned zeros = 0;
+    for (int i = 0; page[0] == 1 && i < 128; i++) page[128 + i] = (uint8_t)(255 - page[i]);
+    if (page[0] == 1) return;
+    for (int i = 0; i < 254; i++)
+        for (unsigned rest = 255u - page[i]; rest; rest /= 2) zeros += rest % 2;
+    page[254] = (uint8_t)(zeros / 256), page[255] = (uint8_t)(zeros % 256);
+}
+/* A record in one of the forms, sound but for its lengths, which may be any. */
 static void forge(uint8_t page[256]) {
     memset(page, 0, 256);
-    page[0] = 1;
+    page[0] = (uint8_t)(1 + chance(2));
     page[1] = (uint8_t)(1 + chance(3));
     page[2] = (uint8_t)(chance(8) ? 1 + chance(FLOATSTORE_MAX_KEY) : chance(256));
     page[3] = (uint8_t)(page[1] > 1 ? 0 : chance(8) ? chance(FLOATSTORE_MAX_VALUE + 1) : chance(256));
-    for (int i = 16; i < 128; i++) page[i] = (uint8_t)('a' + chance(3));
-    for (int i = 0; i < 128; i++) page[128 + i] = (uint8_t)(255 - page[i]);
+    for (int i = 16; i < (page[0] == 1 ? 128 : 254); i++) page[i] = (uint8_t)('a' + chance(3));
+    fill(page);
 }
 int floatstore_chip_read(void *own, uint32_t at, uint8_t *to, uint32_t len) {
     uint8_t page[256];
@@ -100,7 +109,7 @@ int work(void) {
         uint32_t kind = chance(16);
         asked = 0;
         int64_t a = call(kind);
-        must(a >= -FLOATSTORE_NOT_STARTED && a <= (kind == 2 ? 96 : kind == 3 ? 16 : kind == 4 ? 16 * B : 0), "an answer that the call doesn't have");
+        must(a >= -FLOATSTORE_NOT_STARTED && a <= (kind == 2 ? 220 : kind == 3 ? 16 : kind == 4 ? 16 * B : 0), "an answer that the call doesn't have");
         must(untouched(), "what is around the lent memory is changed");
         if (a <= -FLOATSTORE_POWER_GONE && chance(4)) words[AROUND] = 1; /* as if it were started: an area that nobody vouches for */
     }

@@ -21,11 +21,11 @@ use Rattle.lent.specs.Tested.{number}
 use Rattle.append.specs.declared.Change.{Change}
 use Rattle.append.specs.declared.Change.the-variants.{Made, Denied, Lost, Broken}
 
--- a key of 1 to 16 bytes, a value of at most 96
+-- a key of 1 to 16 bytes, a value of at most 220
 pub record Keyed (key value : List ℕ) : Type 0 where
   pub some-key : 1 ≤ length key
   pub short-key : length key ≤ 16
-  pub short-value : length value ≤ 96
+  pub short-value : length value ≤ 220
 
 -- the head, the next place and the number of keys after a change lie in their ranges
 abbrev pub ChangeWithin : ℕ → ℕ → Change → Type 0

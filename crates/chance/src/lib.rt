@@ -34,31 +34,42 @@ fn random_page(x: &mut u64) -> [u8; 256] {
     page
 }
 
-// The page of a note, or of a value, of one of the keys.
+// The page of the payload: in the old form where byte 0 says so, and else with a count.
+fn page_of(payload: [u8; 256]) -> [u8; 256] {
+    if payload[0] == 1 {
+        return trying::old_page(&payload);
+    }
+    trying::new_page(payload)
+}
+
+// The page of a note, or of a value, of one of the keys, in one of the forms.
 fn record_page(x: &mut u64) -> [u8; 256] {
     let note = roll(x) % 4 == 0;
     let key = [random_key(x)];
     let value = [random_byte(x)];
-    record::encode(note, &key, &value)
+    let page = record::encode(note, &key, &value);
+    if roll(x) % 2 == 0 {
+        return trying::old_page(&page);
+    }
+    page
 }
 
 // 0, or up to one more than the length of any value.
 fn odd_length(x: &mut u64) -> u8 {
-    let v = roll(x) % 196;
-    if v < 98 { 0 } else { (v - 98) as u8 }
+    let v = roll(x) % 444;
+    if v < 222 { 0 } else { (v - 222) as u8 }
 }
 
-// A sound page, whose form, kind and lengths may be those of a record or not.
+// A page, sound but for its form, whose form, kind and lengths may be those of a record or not.
 fn odd_page(x: &mut u64) -> [u8; 256] {
     let mut page = [0u8; 256];
-    page[0] = (1 + roll(x) % 4 / 3) as u8;
+    page[0] = (1 + roll(x) % 3) as u8;
     page[1] = (1 + roll(x) % 3) as u8;
     page[2] = (roll(x) % 18) as u8;
     page[3] = odd_length(x);
     page[16] = random_key(x);
     page[32] = random_byte(x);
-    page::fill(&mut page);
-    page
+    page_of(page)
 }
 
 // The page of a record, with a random byte somewhere.

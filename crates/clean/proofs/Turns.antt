@@ -12,8 +12,9 @@ use Rattle.page.specs.Page.{Bytes}
 use Rattle.chip.specs.Chip.{power, pageAt, blankAt, written}
 use Rattle.chip.specs.Play.{Op, write, Writable, Did}
 use Rattle.chip.proofs.Power.{write-stayed, write-went}
-use Rattle.chip.proofs.Plays.{did-none, did-write, did-more, did-then}
-use Rattle.record.specs.Record.{Rec, recOf, recAt}
+use Rattle.chip.proofs.Plays.{did-none, did-meant, did-more, did-then}
+use Rattle.record.specs.Record.{Rec, recOf, recAt, anew}
+use Rattle.record.proofs.Copy.{anew-length, anew-bytes, anew-says}
 use Rattle.log.specs.Log.{pageOf, oldest, run, pages}
 use Rattle.log.specs.Ring.{Chip, chipOf, sealed, spare}
 use Rattle.log.specs.Call.{copying, Wrote, CutWrote, Leads, Cut}
@@ -64,40 +65,40 @@ module _ (B : ℕ) (big : 4 ≤ B) (pg noise c ix : List ℕ) (f n h k j p : ℕ
               ∙ copy-blank B big h c₀ (chipOf c) (oldest B (h + B) + i) (fresh B h + k) (omega arith) (m .opening));
         }
 
-    module _ (c′ : List ℕ) (f′ : ℕ) (i : 256 * p + 256 ≤ length c) (z : blankAt c p ≡ true) (g : f′ ≡ f - 1) (y : length pg ≡ 256) (s : Bytes pg)
-        (w : c′ ≡ written (power f) noise p pg c) where
-      fit : Writable p pg c
-      fit = record { inside = i; blank = z; size = y; bytes = s }
+    module _ (c′ new : List ℕ) (f′ : ℕ) (i : 256 * p + 256 ≤ length c) (z : blankAt c p ≡ true) (g : f′ ≡ f - 1) (y : length pg ≡ 256) (s : Bytes pg)
+        (u : new ≡ anew pg) (w : c′ ≡ written (power f) noise p new c) where
+      fit : Writable p (anew pg) c
+      fit = record { inside = i; blank = z; size = anew-length pg y s; bytes = anew-bytes pg y s }
 
       did : Did 0 1 noise c f c′ f′
-      did = did-write p pg c c′ f f′ fit w g
+      did = did-meant p (anew pg) new c c′ f f′ fit u w g
 
-      -- what the page says that was read
-      same : (x : ℕ) (r : Rec) → pg ≡ pageAt c x → recAt c x ≡ some r → recOf pg ≡ some r
+      -- the copy says what the page said that was read
+      same : (x : ℕ) (r : Rec) → pg ≡ pageAt c x → recAt c x ≡ some r → recOf (anew pg) ≡ some r
       unfolding recAt
-      same x r u says = ap recOf u ∙ says
+      same x r at says = anew-says pg y s ∙ ap recOf at ∙ says
 
       -- the power went
       pub carry-dark : f′ ≡ 0 → Carries B n h k j pg noise c f ix c′ f′ ix Dark
-      unfolding did did-write
+      unfolding did did-meant
       carry-dark gone =
           record {
             did = did;
             right = λ c₀ x lit l at m a.
                 let t : ℕ = oldest B (h + B) + x in
                 let v : CutWrote p (some (a .rec)) (chipOf c) (chipOf c′) =
-                subst (λ (d : List ℕ). CutWrote p (some (a .rec)) (chipOf c) (chipOf d)) (sym (write-went noise c c′ f f′ g p pg pg refl w lit gone))
-                (cut-copy noise p c pg (a .rec) (same (pageOf B t) (a .rec) at (a .says)) fit) in (
+                subst (λ (d : List ℕ). CutWrote p (some (a .rec)) (chipOf c) (chipOf d)) (sym (write-went noise c c′ f f′ g p (anew pg) new u w lit gone))
+                (cut-copy noise p c (anew pg) (a .rec) (same (pageOf B t) (a .rec) at (a .says)) fit) in (
                   gone,
-                  subst (λ (d : ℕ). Cut B (midway B c h c₀ x k) (chipOf c′) (write d pg ∷ [])) (sym here)
-                      (cut-copied B h c₀ (chipOf c) t (fresh B h + k) (omega arith) (chipOf c′) (a .rec) (a .row) pg (a .says) (a .live) (a .stands)
+                  subst (λ (d : ℕ). Cut B (midway B c h c₀ x k) (chipOf c′) (write d (anew pg) ∷ [])) (sym here)
+                      (cut-copied B h c₀ (chipOf c) t (fresh B h + k) (omega arith) (chipOf c′) (a .rec) (a .row) (anew pg) (a .says) (a .live) (a .stands)
                       (subst (λ (d : ℕ). CutWrote d (some (a .rec)) (chipOf c) (chipOf c′)) here v)),
                 );
           }
 
       -- it stayed: the entry is that of the copy
       pub carry-on : 0 < f′ → j < n → (ix′ : List ℕ) → ix′ ≡ set ix j p → Carries B n h k j pg noise c f ix c′ f′ ix′ (On (k + 1))
-      unfolding did did-write
+      unfolding did did-meant
       carry-on on low ix′ put =
           record {
             did = did;
@@ -105,8 +106,8 @@ module _ (B : ℕ) (big : 4 ≤ B) (pg noise c ix : List ℕ) (f n h k j p : ℕ
                 let t : ℕ = oldest B (h + B) + x in
                 let r : ℕ = fresh B h + k in
                 let o : Wrote p (some (a .rec)) (chipOf c) (chipOf c′) =
-                subst (λ (d : List ℕ). Wrote p (some (a .rec)) (chipOf c) (chipOf d)) (sym (write-stayed noise c c′ f f′ g p pg pg refl w on))
-                (wrote-copy noise p c pg (a .rec) (same (pageOf B t) (a .rec) at (a .says)) fit) in
+                subst (λ (d : List ℕ). Wrote p (some (a .rec)) (chipOf c) (chipOf d)) (sym (write-stayed noise c c′ f f′ g p (anew pg) new u w on))
+                (wrote-copy noise p c (anew pg) (a .rec) (same (pageOf B t) (a .rec) at (a .says)) fit) in
                 let v : Wrote (pageOf B r) (some (a .rec)) (chipOf c) (chipOf c′) = subst (λ (d : ℕ). Wrote d (some (a .rec)) (chipOf c) (chipOf c′)) here o in
                 let t1 : suc t ≡ oldest B (h + B) + (x + 1) = omega arith in
                 let r1 : suc r ≡ fresh B h + (k + 1) = omega arith in
@@ -121,13 +122,13 @@ module _ (B : ℕ) (big : 4 ≤ B) (pg noise c ix : List ℕ) (f n h k j p : ℕ
                       (live-what B big (chipOf c) (chipOf c′) h c₀ t r (a .rec) (a .row) (omega arith) (omega arith) (a .says) (a .live) (a .stands) (m .opening))
                       (written-at B r (a .rec) (chipOf c) (chipOf c′) v) none-there j (a .inside) (a .entry));
                 } in
-                let run : Leads B (copying h c₀ (chipOf c) t r) (copying h c₀ (chipOf c′) (suc t) (suc r)) (write (pageOf B r) pg ∷ []) =
-                leads-copy B h c₀ (chipOf c) t r (omega arith) (chipOf c′) (a .rec) (a .row) pg (a .says) (a .live) (a .stands) v in (
+                let run : Leads B (copying h c₀ (chipOf c) t r) (copying h c₀ (chipOf c′) (suc t) (suc r)) (write (pageOf B r) (anew pg) ∷ []) =
+                leads-copy B h c₀ (chipOf c) t r (omega arith) (chipOf c′) (a .rec) (a .row) (anew pg) (a .says) (a .live) (a .stands) v in (
                   on,
                   subst (λ (d : ℕ). Midway B c′ ix′ n h c₀ d (fresh B h + (k + 1))) t1 (subst (λ (d : ℕ). Midway B c′ ix′ n h c₀ (suc t) d) r1 mid),
-                  subst (λ (d : ℕ). Leads B (midway B c h c₀ x k) (midway B c′ h c₀ (x + 1) (k + 1)) (write d pg ∷ [])) (sym here)
-                      (subst (λ (d : ℕ). Leads B (copying h c₀ (chipOf c) t r) (copying h c₀ (chipOf c′) d (fresh B h + (k + 1))) (write (pageOf B r) pg ∷ [])) t1
-                      (subst (λ (d : ℕ). Leads B (copying h c₀ (chipOf c) t r) (copying h c₀ (chipOf c′) (suc t) d) (write (pageOf B r) pg ∷ [])) r1 run)),
+                  subst (λ (d : ℕ). Leads B (midway B c h c₀ x k) (midway B c′ h c₀ (x + 1) (k + 1)) (write d (anew pg) ∷ [])) (sym here)
+                      (subst (λ (d : ℕ). Leads B (copying h c₀ (chipOf c) t r) (copying h c₀ (chipOf c′) d (fresh B h + (k + 1))) (write (pageOf B r) (anew pg) ∷ [])) t1
+                      (subst (λ (d : ℕ). Leads B (copying h c₀ (chipOf c) t r) (copying h c₀ (chipOf c′) (suc t) d) (write (pageOf B r) (anew pg) ∷ [])) r1 run)),
                 );
           }
 

@@ -38,7 +38,7 @@ pub enum Turn {
     Dirty,
 }
 
-// The page of a live value, whose entry is j, is copied to place k of the spare.
+// The page of a live value, whose entry is j, is made anew at place k of the spare.
 fn carry(
     chip: &mut [u8],
     index: &mut [u32],
@@ -63,7 +63,8 @@ fn carry(
     if !chip::blank_at(chip, p) {
         return Turn::Dirty;
     }
-    chip::write(chip, p, page, fuse, noise);
+    let copy = record::anew(page);
+    chip::write(chip, p, &copy, fuse, noise);
     if *fuse == 0 {
         return Turn::Dark;
     }

@@ -56,7 +56,7 @@ fn check_key(script: &[u8], n: usize, k: u8, chip: &[u8], work: &[u32]) -> usize
 {
     let key = [97 + k];
     let fuse = LONG;
-    let mut buffer = [0u8; 96];
+    let mut buffer = [0u8; 220];
     let answer = calls::get(chip, work, &fuse, &key, &mut buffer);
     let due = due_value(script, n, &key);
     judge(due, calls::refusal(answer), calls::amount(answer), &buffer)

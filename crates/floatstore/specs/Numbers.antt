@@ -24,4 +24,4 @@ pub record Answers (P : Answer → Type 0) (r : ℤ) : Type 0 where
 
 -- the version of the library, as one number: 10,000 for the first of its three numbers, 100 for the second, 1 for the third (the file VERSION)
 abbrev pub versionNumber : ℕ
-versionNumber = 900
+versionNumber = 1000

@@ -45,7 +45,7 @@ fn number(a: Answer) -> i64
 pub extern "C" fn floatstore_version() -> i64
     ensures { λ r. ⌜ r ≡ pos versionNumber ⌝ }
 {
-    900
+    1000
 }
 
 // Erases every block; the map is empty. A start must follow it.

@@ -37,7 +37,7 @@ module _ (noise : List ℕ) (p : ℕ) (g c : List ℕ) (w : Writable p g c) wher
         go (inl d) = inl (d ∙ e)
         go (inr d) = inr d
 
--- of a record, of a seal, and of a copy of a page, its bytes as they are
+-- of a record, of a seal, and of a copy: a page that says what another says
 module _ (noise : List ℕ) (p : ℕ) (c : List ℕ) where
   module _ (r : Rec) (f : Proper r) (w : Writable p (recordPage r) c) where
     -- a record, whole

@@ -1,31 +1,44 @@
--- The loop of `fill`: the payload stands in the first half, and the second is made of it. Assumes nothing.
-use mathlib.Core.Path.{_≡_, sym, ap, _∙_}
-use mathlib.Core.List.{List}
-use Prim.Native.Nat.{ℕ, _+_, _-_, _<_}
+-- What `fill` makes: the payload stands in the first 254 bytes, and the count is set behind it. Assumes nothing.
+use mathlib.Core.Path.{_≡_, refl, sym, ap, ap₂, _∙_}
+use mathlib.Core.List.{List, [], _∷_, _++_}
+use Prim.Native.Nat.{ℕ, zero, suc, _+_, _-_, _/_, _%_, _≤_}
 use native.Mathlib.Omega.{arith}
 use lib.ListN.{length, take, set}
-use lib.Seq.{length-take-le}
-use Rattle.page.specs.Page.{byte, form}
-use Rattle.page.proofs.Forms.{length-form, form-low, form-high, payload-of}
-use Rattle.page.proofs.Grow.{grown, grown-from, grown-more, grown-all, grown-before}
+use lib.Seq.{getD-take, getD-append-add, length-take-le}
+use Rattle.page.specs.Page.{byte, Bare, onesTo, zeroBits, countForm}
+use Rattle.page.proofs.Ones.{ones-same, ones-bare}
 
-module _ (d : List ℕ) (h : length d ≡ 256) where
-  long : length (take 128 d) ≡ 128
-  long = length-take-le 128 d (omega arith)
+-- the last two of n + 2 bytes are set
+last-two : (n : ℕ) (l : List ℕ) (x y : ℕ) → length l ≡ n + 2 → set (set l n x) (suc n) y ≡ take n l ++ (x ∷ y ∷ [])
+last-two zero [] x y h = absurd (omega arith)
+last-two zero (a ∷ []) x y h = absurd (omega arith)
+last-two zero (a ∷ b ∷ []) x y h = refl
+last-two zero (a ∷ b ∷ d ∷ l) x y h = absurd (omega arith)
+last-two (suc n) [] x y h = absurd (omega arith)
+last-two (suc n) (a ∷ l) x y h = ap (λ (m : List ℕ). a ∷ m) (last-two n l x y (omega arith))
 
-  pub fill-start : d ≡ grown 128 (form (take 128 d)) d
-  fill-start = grown-from 128 _ d (payload-of (take 128 d) long)
+module _ (pg : List ℕ) (h : length pg ≡ 256) where
+  -- what is counted, in numbers of eight bytes, has the 1 bits of the payload
+  pub fill-ones : (m : ℕ) → m ≤ 254 → Bare pg m → (n : ℕ) → m ≤ n → onesTo pg n ≡ onesTo (take 254 pg) 254
+  fill-ones m l bare n k =
+      ones-bare pg m bare n k ∙ sym (ones-bare pg m bare 254 l) ∙ ones-same pg (take 254 pg) 254 (λ i b. sym (getD-take 254 pg i 0 b))
 
-  pub fill-turn : (i : ℕ) (pg : List ℕ) (k v : ℕ) → i < 128 → k ≡ 128 + i → pg ≡ grown (128 + i) (form (take 128 d)) d → v ≡ 255 - byte pg i
-      → set pg k v ≡ grown (128 + (i + 1)) (form (take 128 d)) d
-  fill-turn i pg k v l q e w =
-      let n : length (form (take 128 d)) ≡ 256 = length-form (take 128 d) long in
-      let m : 128 + i + 1 ≡ 128 + (i + 1) = omega arith in
-      ap (λ (j : ℕ). set pg j v) q ∙ grown-more (128 + i) _ d pg v e
-      (w ∙ ap (λ (x : ℕ). 255 - x) (grown-before (128 + i) _ d pg e (omega arith) i (omega arith) ∙ form-low (take 128 d) long i l)
-      ∙ sym (form-high (take 128 d) long i l))
-      (omega arith) (omega arith)
-      ∙ ap (λ (k : ℕ). grown k (form (take 128 d)) d) m
+  pub fill-makes : (z x y : ℕ) → z ≡ zeroBits (take 254 pg) → x ≡ z / 256 → y ≡ z % 256 → set (set pg 254 x) 255 y ≡ countForm (take 254 pg)
+  unfolding countForm
+  fill-makes z x y e d f =
+      last-two 254 pg x y h ∙ ap₂ (λ (a b : ℕ). take 254 pg ++ (a ∷ b ∷ [])) (d ∙ ap (λ (k : ℕ). k / 256) e) (f ∙ ap (λ (k : ℕ). k % 256) e)
 
-  pub fill-end : (i : ℕ) (pg : List ℕ) → i ≡ 128 → pg ≡ grown (128 + i) (form (take 128 d)) d → pg ≡ form (take 128 d)
-  fill-end i pg q e = grown-all (128 + i) _ d pg e (omega (arith, length-form (take 128 d) long)) (omega arith)
+  -- with zeros in the place of the count any payload will do
+  pub two-zeros : Bare (set (set pg 254 0) 255 0) 254
+  two-zeros = record { zeros = λ i l. ap (λ (p : List ℕ). byte p i) (last-two 254 pg 0 0 h) ∙ behind i l }
+    where
+      two : (j : ℕ) → byte (0 ∷ 0 ∷ []) j ≡ 0
+      two zero = refl
+      two (suc zero) = refl
+      two (suc (suc j)) = refl
+
+      behind : (i : ℕ) → 254 ≤ i → byte (take 254 pg ++ (0 ∷ 0 ∷ [])) i ≡ 0
+      behind i l =
+          let long : length (take 254 pg) ≡ 254 = length-take-le 254 pg (omega arith) in
+          let at : length (take 254 pg) + (i - 254) ≡ i = omega arith in
+          ap (λ (k : ℕ). byte (take 254 pg ++ (0 ∷ 0 ∷ [])) k) (sym at) ∙ getD-append-add (take 254 pg) (0 ∷ 0 ∷ []) (i - 254) 0 ∙ two (i - 254)

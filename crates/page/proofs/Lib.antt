@@ -1,6 +1,8 @@
 pub mod All
 pub mod Runs
 pub mod Grow
+pub mod Ones
+pub mod Adding
 pub mod Forms
 pub mod Filling
 pub mod Cut

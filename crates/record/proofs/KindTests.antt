@@ -18,7 +18,7 @@ or-right true b e = absurd (true≢false e)
 or-right false b e = e
 
 -- v: bytes 0 to 3 are those of a value; n: of a note; s: the page is sound
-module _ (pg : List ℕ) (v n : Bool) (ev : v ≡ isValue (byte pg 0) (byte pg 1) (byte pg 2) (byte pg 3)) (en : n ≡ isNote (byte pg 0) (byte pg 1) (byte pg 2) (byte pg 3)) where
+module _ (pg : List ℕ) (v n : Bool) (ev : v ≡ isValue (byte pg 0) (byte pg 1) (byte pg 2) (byte pg 3)) (en : n ≡ isNote (byte pg 1) (byte pg 2) (byte pg 3)) where
   pub test-neither : (v || n) ≡ false → Nothing ≡ kindOf (recOf pg)
   unfolding recOf decode kindOf
   test-neither h = rw (sym ev ∙ or-left v n h, sym en ∙ or-right v n h) (go (sound pg))

@@ -4,7 +4,7 @@ use mathlib.Core.Bool.{Bool, true, false, cond, _&&_}
 use mathlib.Core.Option.{Option, none, some}
 use mathlib.Core.List.{List, []}
 use Prim.Native.Nat.{ℕ, _+_, _*_, _≤_}
-use native.Mathlib.Nat.{min-eq-left}
+use native.Mathlib.Nat.{le-trans, min-eq-left}
 use native.Mathlib.Omega.{arith}
 use lib.ListN.{length, take, drop, length-drop}
 use lib.Seq.{length-take-le}
@@ -14,7 +14,7 @@ use Rattle.page.specs.Page.{byte, sound}
 use Rattle.page.proofs.All.{and-left, and-right}
 use Rattle.chip.specs.Chip.{pageAt}
 use Rattle.chip.proofs.Pages.{length-page}
-use Rattle.record.specs.Record.{Rec, recordOf, isValue, isNote, decode, recOf, recAt, keyOn, keyAt, valueAt}
+use Rattle.record.specs.Record.{Rec, recordOf, longest, isValue, isNote, decode, recOf, recAt, keyOn, keyAt, valueOn, valueAt}
 use Rattle.record.specs.Kinds.{kindOf, kindOfWhat}
 use Rattle.record.specs.declared.Kind.{Kind}
 use Rattle.record.specs.declared.Kind.the-variants.{Value, Note, Nothing}
@@ -24,7 +24,7 @@ pub record Said (pg : List ℕ) (r : Rec) : Type 0 where
   pub some-key : 1 ≤ byte pg 2
   pub short-key : byte pg 2 ≤ 16
   pub key : take (byte pg 2) (drop 16 pg) ≡ r .key
-  pub short-value : byte pg 3 ≤ 96
+  pub short-value : byte pg 3 ≤ 220
   pub value : (v : List ℕ) → r .what ≡ some v → take (byte pg 3) (drop 32 pg) ≡ v
 
 -- a value is no none, and two values are equal where they are so as options
@@ -34,12 +34,19 @@ some≢none e = let z : _≡_ {A = ℕ} 0 1 = cc in omega arith
 pub some-inj : {A : Type 0} {a b : A} → some a ≡ some b → a ≡ b
 some-inj e = cc
 
--- the last three of five tests
-last-three : (a b c d e : Bool) → (a && b && c && d && e) ≡ true → (c ≡ true) × (d ≡ true) × (e ≡ true)
-last-three a b c d e h =
-    let abcd : (a && b && c && d) ≡ true = and-left (a && b && c && d) e h in
-    let abc : (a && b && c) ≡ true = and-left (a && b && c) d abcd in
-    (and-right (a && b) c abc, and-right (a && b && c) d abcd, and-right (a && b && c && d) e h)
+-- the last three of four tests
+last-three : (a b c d : Bool) → (a && b && c && d) ≡ true → (b ≡ true) × (c ≡ true) × (d ≡ true)
+last-three a b c d h =
+    let abc : (a && b && c) ≡ true = and-left (a && b && c) d h in
+    (and-right a b (and-left (a && b) c abc), and-right (a && b) c abc, and-right (a && b && c) d h)
+
+-- in neither form a value is longer
+longest-220 : (form : ℕ) → longest form ≤ 220
+longest-220 form = go (eqb form 1)
+  where
+    go : (b : Bool) → cond b 96 220 ≤ 220
+    go true = omega arith
+    go false = omega arith
 
 le-of-eq-zero : {n m : ℕ} → n ≡ 0 → n ≤ m
 le-of-eq-zero e = omega arith
@@ -54,21 +61,21 @@ held pg s v n =
 
 module _ (pg : List ℕ) (r : Rec) where
   by-tests : (s : Bool) → sound pg ≡ s → (v : Bool) → isValue (byte pg 0) (byte pg 1) (byte pg 2) (byte pg 3) ≡ v → (n : Bool)
-      → isNote (byte pg 0) (byte pg 1) (byte pg 2) (byte pg 3) ≡ n → held pg s v n ≡ some r → Said pg r
+      → isNote (byte pg 1) (byte pg 2) (byte pg 3) ≡ n → held pg s v n ≡ some r → Said pg r
   by-tests false es v ev n en e = absurd (some≢none (sym e))
   by-tests true es false ev false en e = absurd (some≢none (sym e))
   by-tests true es true ev n en e =
-      let t = last-three (eqb (byte pg 0) 1) (eqb (byte pg 1) 1) _ _ _ ev in
+      let t = last-three (eqb (byte pg 1) 1) _ _ _ ev in
       record {
         is-sound = es;
         some-key = leb-true _ _ (t .0);
         short-key = leb-true _ _ (t .1);
         key = ap (λ (x : Rec). x .key) (some-inj e);
-        short-value = leb-true _ _ (t .2);
+        short-value = le-trans (leb-true _ _ (t .2)) (longest-220 (byte pg 0));
         value = λ v q. some-inj (ap (λ (x : Rec). x .what) (some-inj e) ∙ q);
       }
   by-tests true es false ev true en e =
-      let t = last-three (eqb (byte pg 0) 1) (eqb (byte pg 1) 2) _ _ _ en in
+      let t = last-three (eqb (byte pg 1) 2) _ _ _ en in
       record {
         is-sound = es;
         some-key = leb-true _ _ (t .0);
@@ -94,7 +101,7 @@ module _ (c : List ℕ) (p : ℕ) (r : Rec) (e : recAt c p ≡ some r) where
   says-key = ap (λ (n : ℕ). take n (drop 16 (pageAt c p))) (min-eq-left (on-page .short-key)) ∙ on-page .key
 
   pub says-value : (v : List ℕ) → r .what ≡ some v → valueAt c p ≡ v
-  unfolding valueAt
+  unfolding valueOn
   says-value v q = ap (λ (n : ℕ). take n (drop 32 (pageAt c p))) (min-eq-left (on-page .short-value)) ∙ on-page .value v q
 
   -- their lengths are those of document 01

@@ -122,7 +122,7 @@ fn wide(b: u8) -> u64 {
 
 // The key is got; the value's length and first byte go to the slot.
 fn read_key(chip: &[u8], work: &[u32], tally: &mut [u64; 512], kind: usize, slot: usize, key: u8) {
-    let mut buffer = [0u8; 96];
+    let mut buffer = [0u8; 220];
     let n = get(chip, work, tally, kind, key, &mut buffer);
     add(tally, kind, slot, n as u64);
     add(tally, kind, slot, wide(buffer[0]));

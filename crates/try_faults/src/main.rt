@@ -1,6 +1,6 @@
 // Erase and write under the fault scripts 0 (the power is gone), 1 (it goes during the operation) and 2 (it stays), each with noise of all zeros,
-// of all ones, mixed, and forged: a block full of sound pages. For each: the page's first byte and its copy, the sums of the page's halves, what the page is,
-// what is left of the script, and how many bytes elsewhere changed.
+// of all ones, mixed, and forged: a block full of sound pages. For each: the page's first byte and its last two, the sums of the page's halves, what the
+// page is, what is left of the script, and how many bytes elsewhere changed.
 use record::Kind;
 use trying::text;
 ghost use mathlib.Core.Path.{_≡_};
@@ -69,7 +69,8 @@ fn print_page(chip: &[u8], p: usize)
 {
     let page = chip::page_at(chip, p);
     print_byte(page[0]);
-    print_byte(page[128]);
+    print_byte(page[254]);
+    trying::byte(page[255]);
     print_sums(&page);
     print_kind(record::kind_of(&page));
 }

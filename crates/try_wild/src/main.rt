@@ -56,8 +56,8 @@ fn try_change(
 
 // Get must leave the buffer as it was from the value's end on.
 fn try_get(chip: &[u8], work: &[u32], tally: &mut [u64; 512], kind: usize, x: &mut u64) {
-    let unread = [170u8; 96];
-    let mut buffer = [170u8; 96];
+    let unread = [170u8; 220];
+    let mut buffer = [170u8; 220];
     let key = chance::random_key(x);
     let n = tallies::get(chip, work, tally, kind, key, &mut buffer);
     tallies::add(tally, 7, 2, trying::changed(&unread, &buffer, 0, n));

@@ -1,4 +1,5 @@
-// What the programs try_* have in common: how they print, the lines and words of a script, and the noises that they cut with.
+// What the programs try_* have in common: how they print, the lines and words of a script, the noises that they cut with, and pages of the old form, which the
+// store reads and no longer writes.
 mod words;
 
 use libc::STDOUT_FILENO;
@@ -32,6 +33,36 @@ pub fn entry(name: &[u8], n: u64) {
 // Writes a byte as two hexadecimal digits.
 pub fn byte(b: u8) {
     io::print_hex(STDOUT_FILENO, b as u64, 2);
+}
+
+// A byte with all its bits flipped.
+fn flip(b: u8) -> u8 {
+    255 - b
+}
+
+// The page of the new form whose payload stands in the first 254 bytes of the buffer: behind it comes the number of its 0 bits.
+pub fn new_page(payload: [u8; 256]) -> [u8; 256] {
+    let mut page = payload;
+    page[254] = 0;
+    page[255] = 0;
+    page::fill(&mut page, 254);
+    page
+}
+
+// The page of the old form whose payload stands in the first half of the buffer, but for byte 0, which is 1. Behind it comes the flipped copy.
+pub fn old_page(payload: &[u8]) -> [u8; 256]
+    requires { ⌜ length (now payload) ≡ 256 ⌝ }
+{
+    let mut page = [0u8; 256];
+    page[0] = 1;
+    page[128] = 254;
+    let mut j = 1;
+    while j < 128 {
+        page[j] = payload[j];
+        page[128 + j] = flip(payload[j]);
+        j += 1;
+    }
+    page
 }
 
 // The page at a block's page 1, and else 255.

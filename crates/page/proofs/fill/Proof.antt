@@ -1,48 +1,44 @@
--- `page::fill` meets its contract. The invariant: the first 128 + j bytes are those of the page. Assumes nothing.
-use mathlib.Core.Path.{_≡_}
-use Prim.Native.Nat.{_≤_, _-_, _+_}
+-- `page::fill` meets its contract. Assumes nothing.
+use mathlib.Core.Path.{refl, ap, _∙_}
+use Prim.Native.Nat.{ℕ, _+_, _-_, _*_, _/_, _≤_}
 use native.Mathlib.Omega.{arith}
+use Rattle.page.specs.Page.{onesTo}
+use Rattle.page.proofs.Ones.{ones-most}
+use Rattle.page.proofs.Filling.{fill-ones, fill-makes}
 use borrow.Author.Needs.{needs}
-use lib.ListN.{length, take, length-set}
-use Rattle.page.specs.Page.{form}
-use Rattle.page.proofs.Grow.{grown}
-use Rattle.page.proofs.Filling.{fill-start, fill-turn, fill-end}
 use Rattle.page.proofs.fill.Statement.{statement}
 use Rattle.page.proofs.fill.Tie as tie
 
-abbrev Inv-loop : tie.InvT-loop
-Inv-loop page₀ j₀ page j = (j ≤ 128) × (length page ≡ 256) × (page ≡ grown (128 + j) (form (take 128 page₀)) page₀)
+sub-zeros : tie.Need-sub-zeros
+sub-zeros c =
+    let st = c .before .before .before in
+    let pg = st .args .page .now in
+    let most : onesTo pg 254 ≤ 8 * 254 = ones-most pg (λ i. omega (arith, c .before .before .slice-known .given i)) 254 in
+    omega (
+      arith,
+      c .ones-to .ensures,
+      fill-ones pg (st .pre .0) (st .args .used) (st .pre .1) (st .pre .2) (8 * ((st .args .used + 7) / 8)) (omega arith),
+      fill-ones pg (st .pre .0) (st .args .used) (st .pre .1) (st .pre .2) 254 (st .pre .1),
+    )
 
-abbrev μ-loop : tie.MeasureT-loop
-μ-loop page₀ j₀ page j = 128 - j
-
-loop-holds : tie.Need-loop-holds Inv-loop μ-loop
-loop-holds c = (search needs, c .before .pre, fill-start _ (c .before .pre))
-
-loop-again : tie.Need-loop-again Inv-loop μ-loop
-loop-again c =
-    let at = c .before .before .before in
-    let st = at .before .before in
-    (search needs, simp length-set (at .loop .inv .1), fill-turn (st .args .page .now) (st .pre) (at .loop .j) _ _ _ (omega arith) (omega arith) (at .loop .inv .2) (c .flip .ensures))
-
-returns : tie.Need-returns Inv-loop μ-loop
+returns : tie.Need-returns
 returns c =
     let st = c .before .before .before in
-    fill-end (st .args .page .now) (st .pre) (c .before .loop .j) _ (omega arith) (c .before .loop .inv .2)
+    let pg = st .args .page .now in
+    fill-makes pg (st .pre .0) _ _ _
+    (ap (λ (k : ℕ). 2032 - k) (c .ones-to .ensures ∙ fill-ones pg (st .pre .0) (st .args .used) (st .pre .1) (st .pre .2) (8 * ((st .args .used + 7) / 8)) (omega arith)))
+    refl refl
 
 pub fill-spec : {M : Type 1} → statement M
 fill-spec =
     tie.close
     (tie.spec
-    Inv-loop
-    μ-loop
-    loop-holds
     (λ c. search needs)
     (λ c κs. search needs)
+    sub-zeros
     (λ c. search needs)
     (λ c. search needs)
     (λ c. search needs)
     (λ c. search needs)
-    loop-again
     (λ c. search needs)
     returns)

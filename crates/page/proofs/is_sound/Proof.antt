@@ -1,34 +1,26 @@
--- `page::is_sound` meets its contract. The invariant: `ok` says whether the pairs of bytes passed are flipped. Assumes nothing.
-use mathlib.Core.Path.{_≡_, refl}
-use Prim.Native.Nat.{_≤_, _-_, _+_}
-use native.Mathlib.Omega.{arith}
+-- `page::is_sound` meets its contract. Assumes nothing.
+use Rattle.page.proofs.Forms.{sound-one, sound-two, sound-neither}
 use borrow.Author.Needs.{needs}
-use Rattle.page.specs.Page.{byte, all, flips, sound}
-use Rattle.page.proofs.All.{all-more, all-done}
-use Rattle.page.proofs.Lowest.{agree-at}
 use Rattle.page.proofs.is_sound.Statement.{statement}
 use Rattle.page.proofs.is_sound.Tie as tie
 
-abbrev Inv-loop : tie.InvT-loop
-Inv-loop page ok₀ i₀ ok i = (i ≤ 128) × (ok ≡ all (λ k. flips (byte page k) (byte page (128 + k))) i)
+returns : tie.Need-returns
+returns c = sound-one (c .before .before .before .before .args .page .now) (c .before .if1 .taken) _ (c .is-flipped .ensures)
 
-abbrev μ-loop : tie.MeasureT-loop
-μ-loop page ok₀ i₀ ok i = 128 - i
+returns-2 : tie.Need-returns-2
+returns-2 c = sound-two (c .before .before .before .before .before .before .args .page .now) (c .before .if2 .taken) _ (c .is-counted .ensures)
 
-loop-holds : tie.Need-loop-holds Inv-loop μ-loop
-unfolding all
-loop-holds c = (omega arith, refl)
-
-loop-again : tie.Need-loop-again Inv-loop μ-loop
-loop-again c =
-    let at = c .before .before .before .before in
-    (search needs, all-more _ _ _ _ (at .loop .inv .1) (agree-at (at .before .before .args .page .now) (at .loop .i) _ _ (c .flips .ensures) (omega arith)))
-
-returns : tie.Need-returns Inv-loop μ-loop
-unfolding sound
-returns c = all-done _ (c .before .loop .i) 128 _ (c .before .loop .inv .1) (omega arith)
+returns-3 : tie.Need-returns-3
+returns-3 c = sound-neither (c .before .before .before .before .before .args .page .now) (c .before .before .if1 .left) (c .if2 .left)
 
 pub is-sound-spec : {M : Type 1} → statement M
 is-sound-spec =
     tie.close
-    (tie.spec Inv-loop μ-loop loop-holds (λ c. search needs) (λ c. search needs) (λ c. search needs) (λ c κs. search needs) (λ c. search needs) (λ c. search needs) loop-again returns)
+    (tie.spec
+    (λ c. search needs)
+    (λ c κs. search needs)
+    returns
+    (λ c. search needs)
+    (λ c κs. search needs)
+    returns-2
+    returns-3)

@@ -1,6 +1,5 @@
 -- `page::look_at` meets its contract. Assumes nothing.
 use mathlib.Core.Path.{sym, _∙_}
-use native.Mathlib.Omega.{arith}
 use Rattle.page.proofs.Lowest.{look-blank, look-sound, look-spoilt}
 use borrow.Author.Needs.{needs}
 use Rattle.page.proofs.look_at.Statement.{statement}
@@ -10,10 +9,12 @@ returns : tie.Need-returns
 returns c = look-blank _ (sym (c .before .is-blank .ensures) ∙ c .if1 .taken)
 
 returns-2 : tie.Need-returns-2
-returns-2 c = look-sound _ (sym (c .before .before .before .is-blank .ensures) ∙ c .before .before .if1 .left) _ (c .before .first-apart .ensures) (omega arith)
+returns-2 c = look-sound _ (sym (c .before .before .before .is-blank .ensures) ∙ c .before .before .if1 .left) (sym (c .before .is-sound .ensures) ∙ c .if2 .taken)
 
 returns-3 : tie.Need-returns-3
-returns-3 c = look-spoilt _ (sym (c .before .before .before .is-blank .ensures) ∙ c .before .before .if1 .left) _ (c .before .first-apart .ensures) (omega (arith, c .before .first-apart .ensures .within))
+returns-3 c =
+    look-spoilt _ (sym (c .before .before .before .before .is-blank .ensures) ∙ c .before .before .before .if1 .left)
+    (sym (c .before .before .is-sound .ensures) ∙ c .before .if2 .left) _ (c .spoilt-at .ensures)
 
 pub look-at-spec : {M : Type 1} → statement M
 look-at-spec =
@@ -23,4 +24,5 @@ look-at-spec =
     returns
     (λ c κs. search needs)
     returns-2
+    (λ c κs. search needs)
     returns-3)

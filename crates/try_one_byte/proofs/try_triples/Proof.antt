@@ -1,17 +1,17 @@
--- `try_one_byte::main` is safe and ends. Assumes nothing.
+-- `try_one_byte::try_triples` is safe and ends. Assumes nothing.
 use Prim.Native.Nat.{_≤_, _-_}
 use borrow.Author.Needs.{needs}
-use Rattle.try_one_byte.proofs.main.Statement.{statement}
-use Rattle.try_one_byte.proofs.main.Tie as tie
+use Rattle.try_one_byte.proofs.try_triples.Statement.{statement}
+use Rattle.try_one_byte.proofs.try_triples.Tie as tie
 
 abbrev Inv-loop : tie.InvT-loop
-Inv-loop pairs₀ t2 t3 pairs = pairs ≤ 256
+Inv-loop triples₀ t2 t3 triples = triples ≤ 16384
 
 abbrev μ-loop : tie.MeasureT-loop
-μ-loop pairs₀ t2 t3 pairs = 256 - pairs
+μ-loop triples₀ t2 t3 triples = 16384 - triples
 
-pub main-spec : {M : Type 1} → statement M
-main-spec =
+pub try-triples-spec : {M : Type 1} → statement M
+try-triples-spec =
     tie.close
     (tie.spec
     Inv-loop
