@@ -22,10 +22,10 @@ static int boot(void) {
 /* A dive: settings are read, measurements kept under a key each until they have been sent. */
 static int dive(int number) {
     char key[FLOATSTORE_MAX_KEY + 1];
-    int32_t depth = 1000, salinity[24];
+    int32_t depth = 1000, salinity[55];
     if (fs_get(&fs, FS_KEY("park.depth"), &depth, sizeof depth) == -FLOATSTORE_NO_VALUE)
         printf("dive %d: no setting yet, parking at %" PRId32 " m\n", number, depth);
-    for (int i = 0; i < 24; i++) salinity[i] = 35000 + 7 * i + number;
+    for (int i = 0; i < 55; i++) salinity[i] = 35000 + 7 * i + number;
     snprintf(key, sizeof key, "sal.%d", number);
     return fs_put(&fs, FS_KEY(key), salinity, sizeof salinity) >= 0;
 }

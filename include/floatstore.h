@@ -1,6 +1,6 @@
 /* floatstore.h: a key-value store on a flash chip, safe against power failures. For C firmware.
  *
- * To its caller the store is a map: a key of 1 to 16 bytes (0x21 to 0x7E) has a value of 0 to 96 bytes, or none. Whatever a call but
+ * To its caller the store is a map: a key of 1 to 16 bytes (0x21 to 0x7E) has a value of 0 to 220 bytes, or none. Whatever a call but
  * format was doing when the power failed, after the next floatstore_start the map is the one before that call or the one after it.
  * floatstore_fs.h has the same calls with less to write, floatstore_text.h the answers in words, floatstore_driver.h the calls for a
  * chip behind a driver of yours.
@@ -67,7 +67,7 @@ extern "C" {
 #define FLOATSTORE_MIN_BLOCKS 4u
 #define FLOATSTORE_MAX_BLOCKS 4096u
 #define FLOATSTORE_MAX_KEY 16u /* bytes of a key, at least 1: a buffer of so many is long enough for every next */
-#define FLOATSTORE_MAX_VALUE 96u /* bytes of a value, 0 and more: a buffer of so many is long enough for every get */
+#define FLOATSTORE_MAX_VALUE 220u /* bytes of a value, 0 and more: a buffer of so many is long enough for every get */
 
 #define FLOATSTORE_CHIP_LEN(B) ((size_t)4096 * (size_t)(B)) /* bytes */
 #define FLOATSTORE_WORK_LEN(B) ((size_t)16 * (size_t)(B) + 16) /* words of 32 bits */
@@ -78,7 +78,7 @@ extern "C" {
 /* A call that is refused answers minus one of these. */
 enum floatstore_refusal {
     FLOATSTORE_BAD_KEY = 1, /* the key's length is 0 (but for next) or above 16; put: or a byte of it is outside 0x21 to 0x7E */
-    FLOATSTORE_LONG_VALUE = 2, /* put: the value is longer than 96 */
+    FLOATSTORE_LONG_VALUE = 2, /* put: the value is longer than 220 */
     FLOATSTORE_NO_ROOM = 3, /* put: the key has no value yet, and the map has 8(B-2) keys already */
     FLOATSTORE_NO_VALUE = 4, /* get, delete: the key has no value; next: no larger key has one */
     FLOATSTORE_BAD_SIZE = 5, /* chip_len isn't 4,096 B for an allowed B, or the work area is too short */

@@ -61,7 +61,7 @@ static void lend(size_t blocks) {
 
 /* Every call is refused with k. */
 static void all_refused(int k) {
-    uint8_t b[96];
+    uint8_t b[FLOATSTORE_MAX_VALUE];
     IS(-k, count());
     IS(-k, put("a", 1, "1", 1));
     IS(-k, get("a", 1, b, sizeof b));
@@ -95,7 +95,7 @@ static void sizes(void) {
 
 /* Fills a chip of B blocks to its last key, one more is refused, and all is there after a start. */
 static void fill(size_t blocks) {
-    uint8_t b[96], key[LETTERS], first[LETTERS];
+    uint8_t b[FLOATSTORE_MAX_VALUE], key[LETTERS], first[LETTERS];
     size_t room = FLOATSTORE_ROOM(blocks), n;
     letters(first, 0);
     lend(blocks);
@@ -124,7 +124,7 @@ static void fill(size_t blocks) {
 }
 
 static void arguments(void) {
-    uint8_t b[97], v[97];
+    uint8_t b[221], v[221];
     memset(v, 7, sizeof v);
     lend(4);
     all_refused(8);
@@ -132,17 +132,23 @@ static void arguments(void) {
     IS(-1, put("", 0, v, 1));
     IS(-1, get("", 0, b, 1));
     IS(-1, del("", 0));
-    IS(0, put("0123456789abcdef", 16, v, 96));
-    IS(-1, put("0123456789abcdefg", 17, v, 97));
-    IS(-1, get("0123456789abcdefg", 17, b, 96));
-    IS(-2, put("a", 1, v, 97));
-    IS(-4, get("a", 1, b, 96));
+    IS(0, put("0123456789abcdef", 16, v, 220));
+    IS(-1, put("0123456789abcdefg", 17, v, 221));
+    IS(-1, get("0123456789abcdefg", 17, b, 220));
+    IS(-2, put("a", 1, v, 221));
+    IS(0, put("old", 3, v, 96)); /* the longest of old pages, and one byte more */
+    IS(96, get("old", 3, b, 96));
+    IS(0, put("old", 3, v, 97));
+    IS(-6, get("old", 3, b, 96));
+    IS(97, get("old", 3, b, 97));
+    IS(0, del("old", 3));
+    IS(-4, get("a", 1, b, 220));
     memset(b, 1, sizeof b);
-    IS(-6, get("0123456789abcdef", 16, b, 95));
+    IS(-6, get("0123456789abcdef", 16, b, 219));
     IS(1, b[0]);
-    IS(96, get("0123456789abcdef", 16, b, 97));
-    IS(7, b[95]);
-    IS(1, b[96]);
+    IS(220, get("0123456789abcdef", 16, b, 221));
+    IS(7, b[219]);
+    IS(1, b[220]);
     IS(0, put("a", 1, v, 0));
     IS(0, get("a", 1, b, 0));
     IS(2, count());
@@ -291,7 +297,7 @@ static void printed_keys(void) {
             if (answer) IS(0, memcmp(keep, chip, sizeof keep));
             IS(answer ? -4 : 0, del(key, 3));
         }
-    IS(-1, put("\n", 1, keep, 97)); /* 1 comes before 2 */
+    IS(-1, put("\n", 1, keep, 221)); /* 1 comes before 2 */
     IS(-1, put("0123456789abcde\n", 16, b, 0));
     lend(4);
     plant(0, "a\nb", 3);

@@ -88,18 +88,18 @@ static void short_calls(void) {
 }
 
 static void null_pointers(void) {
-    uint8_t b[96];
+    uint8_t b[FLOATSTORE_MAX_VALUE];
     IS(0, fs_start(&fs));
     IS(0, fs_put(&fs, "empty", 5, NULL, 0));
     IS(0, fs_get(&fs, "empty", 5, b, sizeof b));
     IS(0, fs_get(&fs, "empty", 5, NULL, 0));
-    IS(0, fs_get(&fs, "empty", 5, NULL, 96)); /* no buffer is needed */
+    IS(0, fs_get(&fs, "empty", 5, NULL, 220)); /* no buffer is needed */
     IS(-2, fs_put(&fs, "empty", 5, NULL, 1));
-    IS(-2, fs_put(&fs, "new", 3, NULL, 96));
+    IS(-2, fs_put(&fs, "new", 3, NULL, 220));
     IS(-4, fs_get(&fs, "new", 3, b, sizeof b));
     IS(0, fs_put(&fs, "full", 4, "1", 1));
     IS(-6, fs_get(&fs, "full", 4, NULL, 0));
-    IS(-6, fs_get(&fs, "full", 4, NULL, 96));
+    IS(-6, fs_get(&fs, "full", 4, NULL, 220));
     IS(-1, fs_put(&fs, NULL, 0, "1", 1));
     IS(-1, fs_put(&fs, NULL, 4, "1", 1));
     IS(-1, fs_get(&fs, NULL, 0, b, sizeof b));

@@ -468,7 +468,7 @@ def script_of(program):
 
 
 def spelt(word):
-    """v*97 is 97 times v; %7f is the byte 0x7F."""
+    """v*221 is 221 times v; %7f is the byte 0x7F."""
     if word[1:2] == "*":
         return word[:1].encode() * int(word[2:])
     first, *others = word.encode().split(b"%")
@@ -515,7 +515,7 @@ class Store(Area):
 
     def put(self, key, value):
         printed = all(0x21 <= x <= 0x7E for x in key)
-        refusal = self.key_refused(key) or (0 if printed else 1) or (2 if len(value) > 96 else 0)
+        refusal = self.key_refused(key) or (0 if printed else 1) or (2 if len(value) > 220 else 0)
         return refusal or self.powered(self.change, 1, key, value)
 
     def delete(self, key):

@@ -75,8 +75,8 @@ says '' put a.img text 'hex:' && says '' get a.img text
 says '' put a.img bytes hex:6865783a31
 says hex:6865783a31 get a.img bytes
 [ "$(tool get a.img bytes --raw)" = hex:1 ] || complain "get --raw"
-says '' put a.img 0123456789abcdef "$(printf '%96s' v)"
-says "$(printf '%96s' v)" get a.img 0123456789abcdef
+says '' put a.img 0123456789abcdef "$(printf '%220s' v)"
+says "$(printf '%220s' v)" get a.img 0123456789abcdef
 has 'oovnvvvv........  head' map a.img
 has 'head: block 0, its next place 8; first round' check a.img
 has 'agree on all 5 keys' check a.img
@@ -140,7 +140,7 @@ fails 'refused (1)' delete a.img hex:
 fails 'refused (1)' put a.img hex:00ff hex:
 fails 'refused (1)' put a.img 'two words' value
 fails 'refused (1)' put a.img $'line\n' value
-fails 'refused (2)' put a.img key "$(printf '%97s' v)"
+fails 'refused (2)' put a.img key "$(printf '%221s' v)"
 fails 'refused (4)' get a.img nothing
 fails 'refused (4): the key has no value' delete a.img nothing
 damaged 'refused (8)' count zero.img

@@ -20,10 +20,10 @@ ends() {
 # ---- values from elsewhere
 tool format a.img 4
 printf 'two\nlines\0' | tool put a.img stdin - && says hex:74776f0a6c696e657300 get a.img stdin
-head -c 96 /dev/urandom >bytes && tool put a.img file @bytes && tool get a.img file --raw | cmp - bytes || complain "@FILE"
+head -c 220 /dev/urandom >bytes && tool put a.img file @bytes && tool get a.img file --raw | cmp - bytes || complain "@FILE"
 says '' put a.img at @@home && says @home get a.img at
 says '' put a.img dash hex:2d && says - get a.img dash
-head -c 97 /dev/zero >long && ends 1 'refused (2)' put a.img file @long
+head -c 221 /dev/zero >long && ends 1 'refused (2)' put a.img file @long
 ends 1 'No such file' put a.img file @none
 
 # ---- export and import: any bytes, both forms, and the map is the same
@@ -34,7 +34,7 @@ with open(sys.argv[1], "w") as out:
     out.write("key,value\n")
     for i in range(40):
         key = bytes([random.randrange(0x21, 0x7f) for _ in range(random.randrange(1, 17))])
-        value = bytes([[i % 256] * 3, [0x22, 0x5c, 0x2c], [random.randrange(256)] * 96, list(b'hex:"x"'), []][i % 5])
+        value = bytes([[i % 256] * 3, [0x22, 0x5c, 0x2c], [random.randrange(256)] * 220, list(b'hex:"x"'), []][i % 5])
         out.write(f"hex:{key.hex()},hex:{value.hex()}\n")
 END2
 tool format any.img 8 && tool import any.img any.csv || complain "import of any bytes"

@@ -1,4 +1,4 @@
-/* How long the calls take on a chip that is memory, full of keys. */
+/* How long the calls take on a chip that is memory, full of keys whose values have the longest length. */
 #define _POSIX_C_SOURCE 200809L
 #include "letters.h"
 #include <floatstore.h>
@@ -40,7 +40,7 @@ static void measure(size_t blocks) {
     double t2 = seconds();
     for (size_t i = 0; i < starts; i++) wrong |= floatstore_start(chip, len, work, words, &fuse);
     double t3 = seconds();
-    printf("%4zu blocks, %5zu keys: put %.2f us, get %.2f us, start %.2f ms%s\n", blocks, room, 1e6 * (t1 - t0) / (double)times, 1e6 * (t2 - t1) / (double)times,
+    printf("%4zu blocks, %5zu keys with values of %u bytes: put %.2f us, get %.2f us, start %.2f ms%s\n", blocks, room, FLOATSTORE_MAX_VALUE, 1e6 * (t1 - t0) / (double)times, 1e6 * (t2 - t1) / (double)times,
            1e3 * (t3 - t2) / (double)starts, wrong ? " WRONG" : "");
     free(chip);
     free(work);

@@ -161,7 +161,7 @@ struct command {
 
 #define HEX "A KEY (1 to 16 bytes; to put, printable ones) is text, or hex digits after 'hex:', as hex:00ff. What isn't printable is shown so too.\n"
 #define VALUE \
-    "A VALUE (0 to 96 bytes) is text or hex: as a key is, or - for standard input, or @FILE for a file's bytes; @@x is the text @x, hex:2d is -.\n"
+    "A VALUE (0 to 220 bytes) is text or hex: as a key is, or - for standard input, or @FILE for a file's bytes; @@x is the text @x, hex:2d is -.\n"
 #define CUT \
     "--cut N: the power fails at the N-th erase or page write. --noise SEED: ones, zeros, or a number. A cut write leaves new | noise, an erase the noise.\n"
 #define ENTRIES "Keys and values stand there as the tool shows them: text, or hex digits after 'hex:'.\n"

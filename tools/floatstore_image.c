@@ -39,7 +39,7 @@ const char *refusal_words(int64_t number) {
     static const char *const words[] = {
         "",
         "a key has 1 to 16 bytes; put takes bytes 0x21 to 0x7E alone",
-        "a value has at most 96 bytes",
+        "a value has at most 220 bytes",
         "no room: the store has as many keys as it can hold",
         "the key has no value",
         "a chip has 4 to 4096 blocks of 4096 bytes",

@@ -267,14 +267,14 @@ static void read_setting(const char *key) {
     if (r ? !row_agrees(r) : get(key, buffer, sizeof buffer) != -FLOATSTORE_NO_VALUE) die("the setting %s is not what was put", key);
 }
 
-/* The profile: records of eight levels, pressure, temperature and salinity each. */
+/* The profile: records of eighteen levels, pressure, temperature and salinity each. */
 static void measure(size_t records) {
     for (size_t part = 0; part < records; part++) {
         char key[32];
-        int32_t levels[24];
-        for (int i = 0; i < 24; i++) levels[i] = (int32_t)(1000 * (dive + (int)part) + i * 37) + (int32_t)chance(20);
+        int32_t levels[54];
+        for (int i = 0; i < 54; i++) levels[i] = (int32_t)(1000 * (dive + (int)part) + i * 37) + (int32_t)chance(20);
         snprintf(key, sizeof key, "m%03d.%02zu", dive, part);
-        keep(key, levels, part + 1 == records ? 12 * (1 + chance(8)) : sizeof levels);
+        keep(key, levels, part + 1 == records ? 12 * (1 + chance(18)) : sizeof levels);
     }
 }
 

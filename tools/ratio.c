@@ -10,7 +10,7 @@
 #include <string.h>
 #include <time.h>
 
-enum { ROUNDS = 300 };
+enum { ROUNDS = 300, LEN = 96 }; /* the longest value that version 0.9.0 takes: an earlier library must take it too */
 
 int64_t floatstore_before_start(const uint8_t *, size_t, uint32_t *, size_t, const uint64_t *);
 int64_t floatstore_before_put(uint8_t *, size_t, uint32_t *, size_t, uint64_t *, const uint8_t *, const uint8_t *, size_t, const uint8_t *, size_t);
@@ -25,7 +25,7 @@ struct store {
     uint32_t *work, *other;
 };
 
-static uint8_t noise[FLOATSTORE_NOISE], value[FLOATSTORE_MAX_VALUE], key[LETTERS];
+static uint8_t noise[FLOATSTORE_NOISE], value[LEN], key[LETTERS];
 static uint64_t fuse = FLOATSTORE_NO_FAULT;
 static size_t len, words, room;
 
@@ -55,7 +55,7 @@ static void put_any(struct store *s, size_t i) {
 
 static void get(struct store *s, size_t i) {
     nth_key(i);
-    check(s->get(s->chip, len, s->work, words, &fuse, key, sizeof key, value, sizeof value), FLOATSTORE_MAX_VALUE);
+    check(s->get(s->chip, len, s->work, words, &fuse, key, sizeof key, value, sizeof value), LEN);
 }
 
 static void start(struct store *s, size_t i) {

@@ -117,7 +117,7 @@ static void choose_key(uint32_t k) {
 }
 
 static void choose_value(uint32_t n) {
-    value_len = chance(97);
+    value_len = chance(FLOATSTORE_MAX_VALUE + 1);
     for (size_t i = 0; i < value_len; i++) value[i] = (uint8_t)(33 + (n * 7 + i * (1 + n % 5) + (n >> 8)) % 94);
 }
 

@@ -4,7 +4,7 @@ against a chip by the maker's data sheet that is kept here.
 
 The write latch is set by 0x06 alone and falls with each program and erase (qemu's own never falls); after a program or erase the status is read before
 anything else; a program is 256 bytes from the start of a page that is blank; an erase is 4,096 bytes at a block; both lie in the store; a read is of the first
-32 bytes of a page, of all 256 or of a value, 1 to 96 bytes from byte 32 on, and each byte of it is the one that stands there; no other command is used. At the
+32 bytes of a page, of all 256 or of a value, 1 to 220 bytes from byte 32 on, and each byte of it is the one that stands there; no other command is used. At the
 end the image is, byte for byte, what the commands make of the first one, and the firmware counted the programs and erases that the device saw. Exit status 0:
 no violation."""
 import collections
@@ -51,7 +51,7 @@ class Chip:
     def kind_of_read(self, at, size):
         if at == 0:
             return {32: "a beginning", 256: "a page"}.get(size)
-        return "a value" if at == 32 and 1 <= size <= 96 else None
+        return "a value" if at == 32 and 1 <= size <= 220 else None
 
     def command_decoded(self, rest):
         self.command = int(rest.split(":")[1], 16)

@@ -260,7 +260,7 @@ static const uint8_t noise[FLOATSTORE_NOISE];
 
 /* One of the calls on `there`, by number. A put or delete is the change. */
 static int64_t one_call(enum call call, const struct change *c) {
-    uint8_t key[16], buffer[96];
+    uint8_t key[16], buffer[FLOATSTORE_MAX_VALUE];
     struct floatstore_seen seen;
     size_t len = key_of(c->key, key);
     if (call == PUT) return run(&there, c, noise);

@@ -76,7 +76,7 @@ void found(const char *form, ...) {
 
 /* Key i says what the model says; past the value the buffer is as it was. */
 static int key_agrees(struct world *w, const struct map *m, size_t i) {
-    uint8_t buffer[97];
+    uint8_t buffer[FLOATSTORE_MAX_VALUE + 1];
     const struct entry *e = &m->of[i];
     memset(buffer, 0x5C, sizeof buffer);
     int64_t len = get(w, i, buffer, sizeof buffer);
@@ -418,12 +418,12 @@ static void age(void) {
 
 /* A put, or a delete in so many of a hundred, of one of the first keys. */
 static void choose(struct change *c, const struct map *m, size_t keys, uint32_t deletes) {
-    static const uint8_t lengths[4] = {0, 1, 96, 40};
+    static const uint8_t lengths[6] = {0, 1, 96, 97, FLOATSTORE_MAX_VALUE, 40}; /* old pages have 96 at most */
     c->key = chance((uint32_t)keys);
     memset(&c->to, 0, sizeof c->to);
     if (chance(100) < deletes && m->of[c->key].has) return;
     c->to.has = 1;
-    c->to.len = chance(3) ? lengths[chance(4)] : (uint8_t)chance(97);
+    c->to.len = chance(3) ? lengths[chance(6)] : (uint8_t)chance(FLOATSTORE_MAX_VALUE + 1);
     for (size_t i = 0; i < c->to.len; i++) c->to.value[i] = (uint8_t)chance(256);
 }
 

@@ -11,7 +11,7 @@ enum { MAX_B = 16, ROOM = 8 * (MAX_B - 2), KEYS = ROOM + 8 };
 
 /* The model of the map: keys are numbered, in their order. */
 struct entry {
-    uint8_t has, len, value[96];
+    uint8_t has, len, value[FLOATSTORE_MAX_VALUE];
 };
 struct map {
     struct entry of[KEYS];

@@ -203,7 +203,7 @@ int64_t twin_put(uint8_t *chip, size_t chip_len, uint32_t *work, size_t work_len
     if (key_len < 1 || key_len > 16) return -1;
     for (size_t i = 0; i < key_len; i++)
         if (key[i] < 0x21 || key[i] > 0x7E) return -1;
-    if (value_len > 96) return -2;
+    if (value_len > LONGEST) return -2;
     if (find(chip, work, key, key_len) == work[KEYS] && work[KEYS] >= 8 * (chip_len / BLOCK - 2)) return -3;
     fill_page(page, VALUE, key, key_len, value, value_len);
     return change(chip, chip_len, work, fuse, noise, page);

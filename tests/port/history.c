@@ -247,7 +247,7 @@ static void bad_calls(void) {
     must(CALL(PUT, floatstore_put(LENT_TO_CHANGE, high, 2, space, 3)), -1, "0x7F in a key");
     must(CALL(PUT, floatstore_put(LENT_TO_CHANGE, fits, 17, space, 3)), -1, "a key of 17");
     must(CALL(PUT, floatstore_put(LENT_TO_CHANGE, fits, 0, space, 3)), -1, "a key of 0");
-    must(CALL(PUT, floatstore_put(LENT_TO_CHANGE, fits, 16, fits, 97)), -2, "a value of 97");
+    must(CALL(PUT, floatstore_put(LENT_TO_CHANGE, fits, 16, fits, FLOATSTORE_MAX_VALUE + 1)), -2, "a value of 221");
     must(CALL(GET, floatstore_get(LENT, fits, 17, buffer, sizeof buffer)), -1, "get of a key of 17");
     must(CALL(GET, floatstore_get(LENT, fits, huge, buffer, sizeof buffer)), -1, "get of a key of SIZE_MAX");
     must(CALL(GET, floatstore_get(LENT_OF(sizeof chip - 1, area), fits, 1, buffer, sizeof buffer)), -5, "a chip too short by one");

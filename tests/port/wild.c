@@ -109,7 +109,7 @@ int work(void) {
         uint32_t kind = chance(16);
         asked = 0;
         int64_t a = call(kind);
-        must(a >= -FLOATSTORE_NOT_STARTED && a <= (kind == 2 ? 220 : kind == 3 ? 16 : kind == 4 ? 16 * B : 0), "an answer that the call doesn't have");
+        must(a >= -FLOATSTORE_NOT_STARTED && a <= (kind == 2 ? (int64_t)FLOATSTORE_MAX_VALUE : kind == 3 ? 16 : kind == 4 ? 16 * B : 0), "an answer that the call doesn't have");
         must(untouched(), "what is around the lent memory is changed");
         if (a <= -FLOATSTORE_POWER_GONE && chance(4)) words[AROUND] = 1; /* as if it were started: an area that nobody vouches for */
     }

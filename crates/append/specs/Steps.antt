@@ -7,7 +7,7 @@ use Prim.Native.Nat.{ℕ, _≤_, _<_, _*_, _+_, _-_}
 use lib.Dec.{leb}
 use lib.ListN.{length, take}
 use Rattle.chip.specs.Play.{Op, Did}
-use Rattle.record.specs.Record.{Rec, recordOf}
+use Rattle.record.specs.Record.{mostValue, Rec, recordOf}
 use Rattle.log.specs.Answers.{missing}
 use Rattle.log.specs.Call.{resting, Trace}
 use Rattle.log.specs.Key.{Key}
@@ -21,11 +21,11 @@ use Rattle.lent.specs.Tested.{number}
 use Rattle.append.specs.declared.Change.{Change}
 use Rattle.append.specs.declared.Change.the-variants.{Made, Denied, Lost, Broken}
 
--- a key of 1 to 16 bytes, a value of at most 220
+-- a key of 1 to 16 bytes, a value of at most mostValue
 pub record Keyed (key value : List ℕ) : Type 0 where
   pub some-key : 1 ≤ length key
   pub short-key : length key ≤ 16
-  pub short-value : length value ≤ 220
+  pub short-value : length value ≤ mostValue
 
 -- the head, the next place and the number of keys after a change lie in their ranges
 abbrev pub ChangeWithin : ℕ → ℕ → Change → Type 0

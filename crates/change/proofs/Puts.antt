@@ -12,7 +12,7 @@ use lib.Seq.{take-all}
 use borrow.Rule.Slice.PartMut.{midOf, putMid}
 use Rattle.chip.specs.Play.{Op, erases, writes, Did}
 use Rattle.chip.proofs.Plays.{did-none, did-more, did-length}
-use Rattle.record.specs.Record.{Rec, recordOf}
+use Rattle.record.specs.Record.{mostValue, Rec, recordOf}
 use Rattle.log.specs.Map.{Map, lookup, alter}
 use Rattle.log.specs.Ring.{chipOf, head, Ring, mapOf, room, mostBlocks, Ready}
 use Rattle.log.specs.Call.{resting, Trace, After}
@@ -271,7 +271,7 @@ module _ (c : List ℕ) (f : ℕ) (w key : List ℕ) where
   put-due : (value : List ℕ) → putAnswer (lentOf c f w) key value (mapIn c)
       ≡ due (lentNumber (lentOf c f w) (putNumber key value)) (due (denialIn false key (mapIn c) (blocksOf c)) (done (alter key (some value) (mapIn c))))
   put-due value =
-      ap (λ (a : Says (Map (List ℕ))). lent (lentOf c f w) (keyed key (refuse 1 (not (printed key)) (refuse 2 (leb 97 (length value)) a))))
+      ap (λ (a : Says (Map (List ℕ))). lent (lentOf c f w) (keyed key (refuse 1 (not (printed key)) (refuse 2 (leb (mostValue + 1) (length value)) a))))
       (refuse-due 2 (missing (lookup key (mapIn c)) && leb (room (blocksOf c)) (length (mapIn c))) (done (alter key (some value) (mapIn c))))
       ∙ ap (lent (lentOf c f w)) (keyed-due key value (due (denialIn false key (mapIn c) (blocksOf c)) (done (alter key (some value) (mapIn c)))))
       ∙ lent-due (lentOf c f w) (putNumber key value) (due (denialIn false key (mapIn c) (blocksOf c)) (done (alter key (some value) (mapIn c))))

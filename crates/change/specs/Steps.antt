@@ -2,11 +2,11 @@
 use mathlib.Core.Bool.{Bool, not}
 use mathlib.Core.List.{List}
 use mathlib.Core.Path.{_≡_}
-use Prim.Native.Nat.{ℕ, _<_, _*_}
+use Prim.Native.Nat.{ℕ, _+_, _<_, _*_}
 use lib.Dec.{leb}
 use lib.ListN.{length, set}
 use Rattle.chip.specs.Play.{Did}
-use Rattle.record.specs.Record.{recordOf}
+use Rattle.record.specs.Record.{mostValue, recordOf}
 use Rattle.log.specs.Answers.{done, printed}
 use Rattle.log.specs.Map.{alter}
 use Rattle.lent.specs.Area.{blocksOf, mapIn, mark, Kept}
@@ -20,7 +20,7 @@ use Rattle.append.specs.declared.Change.the-variants.{Made, Denied, Lost, Broke
 
 -- the refusals 1 and 2 of what is to be put, as a number: the key's length, its bytes, the value's length
 abbrev pub putNumber : List ℕ → List ℕ → ℕ
-putNumber key value = keyNumber key (number 1 (not (printed key)) (number 2 (leb 97 (length value)) 0))
+putNumber key value = keyNumber key (number 1 (not (printed key)) (number 2 (leb (mostValue + 1) (length value)) 0))
 
 -- the numbers of a change that was made are words of the area
 abbrev pub Words : Change → Type 0

@@ -74,7 +74,7 @@ fn put_refusal(key: &[u8], value: &[u8]) -> u32
     if !log::is_printed(key) {
         return 1;
     }
-    if 96 < value.len() {
+    if record::MOST_VALUE < value.len() {
         return 2;
     }
     0

@@ -7,6 +7,7 @@ use Prim.Native.Nat.{ℕ, suc, _+_, _*_, _/_, _%_}
 use lib.Dec.{eqb, leb}
 use lib.ListN.{length, drop}
 use Rattle.page.specs.Page.{byte, all}
+use Rattle.record.specs.Record.{mostValue}
 use Rattle.log.specs.Key.{Key}
 use Rattle.log.specs.Map.{Map, lookup, alter}
 use Rattle.log.specs.Ring.{Chip, head, ringTest, mapOf, room, mostBlocks}
@@ -62,13 +63,13 @@ printable x = leb 0x21 x && leb x 0x7E
 unfoldable pub printed : Key → Bool
 printed k = all (λ i. printable (byte k i)) (length k)
 
--- PUT: the map afterwards. 1 also: a byte of the key is outside 0x21 to 0x7E (request 9 of document 02); 2: the value is longer than 96; 3: the key has no value yet, and the map already has 8 (B - 2) keys
+-- PUT: the map afterwards. 1 also: a byte of the key is outside 0x21 to 0x7E (request 9 of document 02); 2: the value is longer than mostValue, 220; 3: the key has no value yet, and the map already has 8 (B - 2) keys
 abbrev pub putAnswer : Lent → Key → List ℕ → Map (List ℕ) → Answer (Map (List ℕ))
 putAnswer l k v m =
     lent l
     (keyed k
     (refuse 1 (not (printed k))
-    (refuse 2 (leb 97 (length v)) (refuse 3 (missing (lookup k m) && leb (room (blocks l)) (length m)) (done (alter k (some v) m))))))
+    (refuse 2 (leb (mostValue + 1) (length v)) (refuse 3 (missing (lookup k m) && leb (room (blocks l)) (length m)) (done (alter k (some v) m))))))
 
 -- GET: the value's length, and the buffer afterwards. 4: the key has no value; 6: the buffer is shorter than the value
 abbrev pub gotten : List ℕ → Option (List ℕ) → Answer (ℕ × List ℕ)

@@ -14,6 +14,10 @@ pub record Rec : Type 0 where
   pub key : List ℕ
   pub what : Option (List ℕ)
 
+-- the longest value (request 4 of document 02)
+abbrev pub mostValue : ℕ
+mostValue = 220
+
 -- ---- THE PAYLOAD
 
 -- xs, and then zeros, n bytes in all
@@ -24,7 +28,7 @@ pad n xs = xs ++ replicate (n - length xs) 0
 unfoldable pub payload : ℕ → ℕ → ℕ → List ℕ → List ℕ → List ℕ
 payload form n kind key value = (form ∷ kind ∷ length key ∷ length value ∷ replicate 12 0) ++ (pad 16 key ++ pad n value)
 
--- what is written has form 2, and 222 bytes behind the key, of which the last two are kept for later; a value takes at most 220
+-- what is written has form 2, and 222 bytes behind the key, of which the last two are kept for later
 abbrev pub newPage : ℕ → List ℕ → List ℕ → List ℕ
 newPage kind key value = countForm (payload 2 222 kind key value)
 
@@ -52,11 +56,11 @@ oldRecordPage r = oldPage (kindByte (r .what)) (r .key) (valueOf (r .what))
 unfoldable pub sealPage : List ℕ
 sealPage = newPage 3 [] []
 
--- what a record that is written keeps to (document 01, section 3): a key of 1 to 16 bytes, a value of at most 220
+-- what a record that is written keeps to (document 01, section 3): a key of 1 to 16 bytes, a value of at most mostValue
 pub record Proper (r : Rec) : Type 0 where
   pub some-key : 1 ≤ length (r .key)
   pub short-key : length (r .key) ≤ 16
-  pub short-value : length (valueOf (r .what)) ≤ 220
+  pub short-value : length (valueOf (r .what)) ≤ mostValue
   pub key-bytes : Bytes (r .key)
   pub value-bytes : Bytes (valueOf (r .what))
 
@@ -69,7 +73,7 @@ recordOf false key value = record { key = key; what = some value }
 
 -- the longest value that a page of a form has
 abbrev pub longest : ℕ → ℕ
-longest form = cond (eqb form 1) 96 220
+longest form = cond (eqb form 1) 96 mostValue
 
 -- bytes 0 to 3 are those of a value; of a note
 abbrev pub isValue : ℕ → ℕ → ℕ → ℕ → Bool
@@ -92,13 +96,13 @@ recOf pg = cond (sound pg) (decode pg) none
 unfoldable pub recAt : List ℕ → ℕ → Option Rec
 recAt c p = recOf (pageAt c p)
 
--- ---- THE KEY AND THE VALUE ON A PAGE, whatever it says: a length above 16 or 220 is cut, so that no bytes lead out of the page
+-- ---- THE KEY AND THE VALUE ON A PAGE, whatever it says: a length above 16 or mostValue is cut, so that no bytes lead out of the page
 
 unfoldable pub keyOn : List ℕ → List ℕ
 keyOn pg = take (min (byte pg 2) 16) (drop 16 pg)
 
 abbrev pub valueLength : List ℕ → ℕ
-valueLength pg = min (byte pg 3) 220
+valueLength pg = min (byte pg 3) mostValue
 
 unfoldable pub valueOn : List ℕ → List ℕ
 valueOn pg = take (valueLength pg) (drop 32 pg)

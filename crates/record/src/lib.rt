@@ -5,8 +5,11 @@ ghost use mathlib.Core.Path.{_≡_};
 ghost use Prim.Native.Nat.{_+_, _*_, _≤_, min};
 ghost use lib.ListN.{length};
 ghost use Rattle.chip.specs.Chip.{pageAt, splice};
-ghost use Rattle.record.specs.Record.{longest, isValue, isNote, recOf, keyOn, valueLength, valueOn, valueAt, newPage, recordOf, recordPage, sealPage, anew};
+ghost use Rattle.record.specs.Record.{mostValue, longest, isValue, isNote, recOf, keyOn, valueLength, valueOn, valueAt, newPage, recordOf, recordPage, sealPage, anew};
 ghost use Rattle.record.specs.Kinds.{kindOf};
+
+// The longest value.
+pub const MOST_VALUE: usize = 220;
 
 // The kinds of what a page says. A seal says nothing.
 pub enum Kind {
@@ -74,7 +77,7 @@ pub fn value_length(page: &[u8]) -> usize
     requires { ⌜ 32 ≤ length (now page) ⌝ }
     ensures { λ r. ⌜ r ≡ valueLength (now (page .entry)) ⌝ }
 {
-    at_most(page[3], 220)
+    at_most(page[3], MOST_VALUE)
 }
 
 // The value on a page.
@@ -108,7 +111,7 @@ fn copy_in(dst: &mut [u8], a: usize, src: &[u8])
 
 // The page of a kind, a key and a value.
 fn page_of(kind: u8, key: &[u8], value: &[u8]) -> [u8; 256]
-    requires { ⌜ (length (now key) ≤ 16) × (length (now value) ≤ 220) ⌝ }
+    requires { ⌜ (length (now key) ≤ 16) × (length (now value) ≤ mostValue) ⌝ }
     ensures { λ r. ⌜ r ≡ newPage kind (now (key .entry)) (now (value .entry)) ⌝ }
 {
     let mut page = [0u8; 256];
@@ -124,7 +127,7 @@ fn page_of(kind: u8, key: &[u8], value: &[u8]) -> [u8; 256]
 
 // The page of a record: of a note of the key's deletion, or of its value.
 pub fn encode(note: bool, key: &[u8], value: &[u8]) -> [u8; 256]
-    requires { ⌜ (length (now key) ≤ 16) × (length (now value) ≤ 220) ⌝ }
+    requires { ⌜ (length (now key) ≤ 16) × (length (now value) ≤ mostValue) ⌝ }
     ensures { λ r. ⌜ r ≡ recordPage (recordOf note (now (key .entry)) (now (value .entry))) ⌝ }
 {
     if note {

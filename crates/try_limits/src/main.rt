@@ -13,7 +13,7 @@
 //     get KEY N           with a buffer of N bytes, which is printed; its bytes were dots
 //     puts KEY N          N puts of the key, with the values 0, 1, 2, ..
 //
-// In a key or a value `v*97` stands for 97 times v, and `%7f` for the byte 0x7F.
+// In a key or a value `v*221` stands for 221 times v, and `%7f` for the byte 0x7F.
 use libc::STDIN_FILENO;
 use trying::LONGEST;
 ghost use Prim.Native.Nat.{_≤_, _<_};

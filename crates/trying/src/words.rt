@@ -4,7 +4,7 @@ ghost use lib.ListN.{length};
 ghost use Rattle.io.specs.Counts.{Counts};
 
 // The most bytes of a key or a value in a script.
-pub const LONGEST: usize = 128;
+pub const LONGEST: usize = 256;
 
 // The index of the first such byte from this one on; the length where there is none.
 fn seek(s: &[u8], from: usize, b: u8) -> usize
@@ -188,7 +188,7 @@ pub fn numeral(line: &[u8], k: usize) -> u64
     decimal(word(line, k))
 }
 
-// The key or the value that is word k: `v*97` is 97 times v, `%7f` the byte 0x7F, and any other byte itself. Answers its length.
+// The key or the value that is word k: `v*221` is 221 times v, `%7f` the byte 0x7F, and any other byte itself. Answers its length.
 pub fn bytes(line: &[u8], k: usize, out: &mut [u8; LONGEST]) -> usize
     ensures { λ r. ⌜ Counts r (now (out .exit)) ⌝ }
 {

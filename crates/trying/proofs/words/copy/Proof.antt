@@ -6,10 +6,10 @@ use Rattle.trying.proofs.words.copy.Statement.{statement}
 use Rattle.trying.proofs.words.copy.Tie as tie
 
 abbrev Inv-loop : tie.InvT-loop
-Inv-loop s out₀ i₀ n₀ out i n = (i ≤ length s) × (n ≤ 128)
+Inv-loop s out₀ i₀ n₀ out i n = (i ≤ length s) × (n ≤ 256)
 
 abbrev μ-loop : tie.MeasureT-loop
-μ-loop s out₀ i₀ n₀ out i n = 128 - n
+μ-loop s out₀ i₀ n₀ out i n = 256 - n
 
 pub copy-spec : {M : Type 1} → statement M
 copy-spec =
