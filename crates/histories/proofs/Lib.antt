@@ -3,4 +3,5 @@ pub mod Walks
 pub mod Printed
 pub mod Answered
 pub mod Formatted
+pub mod Old
 pub mod Theorems

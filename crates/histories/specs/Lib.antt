@@ -1,3 +1,4 @@
 pub mod History
 pub mod Walks
+pub mod Old
 pub mod Theorems
