@@ -40,9 +40,11 @@
  *   UINT64_MAX   no failure within anyone's lifetime
  * After a cut, set *fuse anew and call floatstore_start.
  *
- * WHAT A CALL COSTS AT MOST. On a ready store with B blocks: put and delete 8(B-2)/15 + 1 erases and 8(B-2) + B page writes;
- * start, get, count and next none; format B erases. Over a life with n puts and deletes and q power failures: n/7 + q erases, and
- * any two blocks' erases differ by at most 1 + q.
+ * WHAT A CALL COSTS AT MOST. Put and delete 1 erase and 10 page writes, whatever the number B of blocks; and one page write more for
+ * each power failure since the cleaning, of which each call does a little, was last up to date, while those are at most 5. After
+ * more than 5, or at first on a chip that an earlier version wrote, until it has caught up: B - 2 erases and 16(B-2) + 15 page
+ * writes. Start, get, count and next none; format B erases. Over a life with n puts and deletes and q power failures: n/6 + q
+ * erases, and any two blocks' erases differ by at most 1 + q.
  */
 #ifndef FLOATSTORE_H
 #define FLOATSTORE_H

@@ -314,7 +314,7 @@ class Gone(Exception):
 
 
 class Area:
-    """A chip with its work area, whatever stands in either: word 0 the mark, 1 the head, 2 its next place, 3 the number of keys, from 16 the index."""
+    """A chip with its work area, whatever stands in either: word 0 the mark, 1 the head, 2 its next place, 3 the number of keys, 4 the cursor, from 16 the index."""
 
     def __init__(self, chip=BLANK * 64, words=80):
         self.chip, self.work, self.blocks = bytearray(chip), [0] * words, len(chip) // 4096
@@ -322,7 +322,7 @@ class Area:
 
     def start_blank(self):
         self.chip = bytearray(BLANK * 64)
-        self.work[:4] = [1, 0, 0, 0]
+        self.work[:5] = [1, 0, 0, 0, 30]
 
     def operate(self, a, whole, cut):
         """An erase or a write, of the bytes from a on; the fuse counts it."""
@@ -362,6 +362,32 @@ class Area:
             lo, hi = (mid + 1, hi) if here < key else (lo, mid)
         return False, lo
 
+    def entry_of(self, q):
+        """The entry of the key on page q, if it is this very page: so q is live. Else None."""
+        page = page_at(self.chip, q)
+        there, i = self.find(page[16 : 16 + min(page[2], 16)])
+        return i if there and self.work[16 + i] == q else None
+
+    def carry(self, q, i, p):
+        """The live page q, whose entry is i, is made anew on page p. Whether that was blank."""
+        if not self.write(p, anew(page_at(self.chip, q))):
+            return False
+        self.work[16 + i] = p
+        return True
+
+    def sweep(self, h, place, passed, left, top):
+        """So many looks from the cursor on, and what is live goes to the head, while that has fewer than `top` pages and the cursor is in its zone: the head's next
+        place, the cursor, the looks left; None where a page that must be written isn't blank."""
+        while left and place < top and passed < place + self.blocks - 2:
+            q = 16 * ((h + 2 + passed // 15) % self.blocks) + passed % 15
+            i = self.entry_of(q)
+            if i is not None:
+                if not self.carry(q, i, 16 * h + place):
+                    return None
+                place += 1
+            passed, left = passed + 1, left - 1
+        return place, passed, left
+
     def open_next(self, h):
         """How many places of the new head are used; None where a page that must be written isn't blank."""
         spare, oldest, k = (h + 1) % self.blocks, (h + 2) % self.blocks, 0
@@ -369,34 +395,46 @@ class Area:
         if sealed:
             self.erase(spare)
         for q in range(16 * oldest, 16 * oldest + 15) if sealed else ():
-            page = page_at(self.chip, q)
-            there, j = self.find(page[16 : 16 + min(page[2], 16)])
-            if there and self.work[16 + j] == q:
-                if k == 15 or not self.write(16 * spare + k, anew(page)):
+            i = self.entry_of(q)
+            if i is not None:
+                if k == 15 or not self.carry(q, i, 16 * spare + k):
                     return None
-                self.work[16 + j] = 16 * spare + k
                 k += 1
         return k if self.write(16 * h + 15, seal_page(0)) else None
+
+    def make_place(self, h, place, passed):
+        """Where the record goes, after 8 looks: the head, its next place, the cursor; None where a page that must be written isn't blank."""
+        swept = self.sweep(h, place, passed, 8, 15)
+        if swept is None or swept[0] < 15:
+            return swept and (h, *swept[:2])
+        place, passed, left = swept
+        for _ in range(self.blocks - 2):
+            if place == 15:
+                place, h = self.open_next(h), (h + 1) % self.blocks
+                left, passed = max(left - max(15 - passed, 0), 0), max(passed, 15) - 15
+            if place is None:
+                return None
+        swept = None if place == 15 else self.sweep(h, place, passed, left, 14)
+        return swept and (h, *swept[:2])
 
     def change(self, kind, key, value):
         if self.unready():
             return self.unready()
-        _, h, place, n = self.work[:4]
+        _, h, place, n, passed = self.work[:5]
         there, i = self.find(key)
         if not there and (kind == 2 or n >= self.room()):
             return 4 if kind == 2 else 3
-        for _ in range(2):
-            if place == 15:
-                place, h = self.open_next(h), (h + 1) % self.blocks
-            if place is None:
-                return 8
+        found = self.make_place(h, place, passed)
+        if found is None:
+            return 8
+        h, place, passed = found
         p = 16 * h + place
-        if place == 15 or not self.write(p, record_page(kind, key, value)):
+        if not self.write(p, record_page(kind, key, value)):
             return 8
         index = self.work[16 : 16 + n]
         index[i : i + there] = [p] if kind == 1 else []
         self.work[16 : 16 + len(index)] = index
-        self.work[1:4] = [h, place + 1, len(index)]
+        self.work[1:5] = [h, place + 1, len(index), passed]
         return 0
 
     def scramble(self, tame, limit, rng):
@@ -495,7 +533,8 @@ class Store(Area):
         if h is None or len(table) > self.room():
             return 8
         place = max((i + 1 for i in range(15) if page_at(self.chip, 16 * h + i) != BLANK), default=0)
-        self.work[:4] = [1, h, place, len(table)]
+        places = [15 * ((p // 16 - h - 2) % self.blocks) + p % 16 for p in table.values()]
+        self.work[:5] = [1, h, place, len(table), min(places, default=15 * (self.blocks - 2) + place)]
         self.work[16 : 16 + len(table)] = [table[key] for key in sorted(table)]
         return 0
 

@@ -428,10 +428,10 @@ static void report(uint64_t seed, int list) {
     report_wear(&least, &most);
     printf("\nbounds, for n = %s puts and deletes and q = %zu power failures:\n", counted(n), q);
     printf("  %-28s %8s   %8s\n", "", "seen", "bound");
-    report_bound("erases in all", wear.all, n / 7 + q, "n/7 + q");
+    report_bound("erases in all", wear.all, n / 6 + q, "n/6 + q");
     report_bound("two blocks' erases differ by", most - least, 1 + q, "1 + q");
-    report_bound("erases in one call", tally.worst_erases, room / 15 + 1, "8(B-2)/15 + 1");
-    report_bound("page writes in one call", tally.worst_writes, room + blocks, "8(B-2) + B");
+    report_bound("erases in one call", tally.worst_erases, 1, "1");
+    report_bound("page writes in one call", tally.worst_writes, 15, "10, and 1 for each recent failure, 5 at most");
     if (most) printf("  at this pace the maker's promise lasts %s years\n", counted(100000 * 5 / most));
     report_ring();
     boot();

@@ -10,7 +10,7 @@ echo "$@" | tr ' ' '\n' | LC_ALL=C awk -v erase="${ERASE_MS:-45}" -v page="${PAG
   function counted(n, s) { for (s = ""; n >= 1000; n = int(n / 1000)) s = sprintf(",%03d", n % 1000) s; return n s }
   BEGIN { print "| blocks | keys | flash, bytes | work area, bytes | worst put: erases | page writes | in seconds |"; print "|---|---|---|---|---|---|---|" }
   {
-    room = 8 * ($1 - 2); erases = int(room / 15) + 1; writes = room + $1
+    room = 8 * ($1 - 2); erases = 1; writes = 10
     printf "| %s | %s | %s | %s | ", counted($1), counted(room), counted(4096 * $1), counted(4 * (16 * $1 + 16))
     printf "%s | %s | %.3g |\n", counted(erases), counted(writes), (erases * erase + writes * page) / 1000
   }'

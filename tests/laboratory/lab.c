@@ -1,9 +1,10 @@
-/* The crash laboratory: random histories of a store on chips of 4, 5, 8 and 16 blocks, beside a model of its map that shares nothing with it.
+/* The crash laboratory: random histories of a store on chips of 4, 5, 6, 8 and 16 blocks, beside a model of its map that shares nothing with it.
  *
  * Each put and delete is cut at every one of its operations, on copies of the chip, with noise that an adversary chose; a cut erase leaves forged blocks (docs/FAULTS.md).
  * Pages of the chip are turned to the old form on the way, and some that say nothing are made to look sound in the form that they haven't (docs/FORMAT.md).
  * After each cut the map must be the one before or the one after, and then the call is tried again and cut again, three deep. The history itself goes on whole or through
- * a cut. What the store does to the chip is seen from outside (tools/watch.h): erases and writes are counted without a word from the store, and a write to a page that
+ * a cut. Some histories begin on a chip that version 0.9.0 wrote, some calls are tried with an area of lies. After each step the bounds are asked of the log as it stands: how
+ * far behind cleaning is (timely), and how much wear is to come (potential). What the store does to the chip is seen from outside (tools/watch.h): erases and writes are counted without a word from the store, and a write to a page that
  * isn't blank is found. Two programs bring it a store: stores.c and driven.c. */
 #include "lab.h"
 #include "chance.h"
@@ -17,7 +18,7 @@
 enum { MAX_OPS = 256, DEPTH = 3, PAGE = FLOATSTORE_PAGE, BLOCK = FLOATSTORE_BLOCK };
 
 const struct store library = {floatstore_format, floatstore_start, floatstore_put, floatstore_get, floatstore_delete,
-                              floatstore_count, floatstore_next, floatstore_start_seeing, NULL};
+                              floatstore_count, floatstore_next, floatstore_start_seeing, NULL, NULL, 1};
 static const struct store *store;
 
 uint32_t draw(uint32_t below) { return chance(below); }
@@ -39,6 +40,8 @@ void make(struct map *m, const struct change *c) {
 /* ---- a chip, a work area, the fault script */
 
 static size_t blocks;
+static struct world now, worlds[DEPTH], whole;
+static struct map map;
 
 int64_t start(struct world *w) { return store->start(w->chip, w->chip_len, w->work, w->work_len, &w->fuse); }
 int64_t count(struct world *w) { return store->count(w->chip, w->chip_len, w->work, w->work_len, &w->fuse); }
@@ -116,9 +119,12 @@ void mirror(const struct store *other, const struct did *d) {
     if (d->answer == -7 && d->left == fuse) return;
     memcpy(own, d->before, d->len);
     if (other->start(own, d->len, work, FLOATSTORE_WORK_LEN(MAX_B), &lit) != 0) found("the other store can't read the chip");
+    if (work[PASSED_WORD] < d->passed) found("the cursor has passed a value that the other store finds");
+    work[PASSED_WORD] = d->passed;
     int64_t answer = d->value ? other->put(own, d->len, work, FLOATSTORE_WORK_LEN(MAX_B), &fuse, d->noise, d->key, d->key_len, d->value, d->value_len)
                               : other->delete(own, d->len, work, FLOATSTORE_WORK_LEN(MAX_B), &fuse, d->noise, d->key, d->key_len);
     if (answer != d->answer || fuse != d->left || memcmp(own, d->chip, d->len) != 0) found("the two stores differ");
+    if (answer == 0 && memcmp(work, d->work, WORDS * sizeof *work) != 0) found("the two stores' areas differ");
 }
 
 /* ---- the adversary's noise. A cut write leaves new | noise; a cut erase leaves the noise itself, so that any block can be forged */
@@ -283,22 +289,105 @@ static void observe(struct trace *t, const struct world *w, const struct change 
     if (t->len > MAX_OPS) found("a call does %zu operations", t->len);
 }
 
+/* ---- the log of a started store, by its area. Log place 15 i + j is place j of the i-th block from the oldest on */
+
+struct log {
+    size_t k, head, next, passed, keys, end; /* k: blocks but head and spare; `end`: behind the last page */
+    uint8_t rows[15 * MAX_B]; /* by log place: how many keys have their value there */
+};
+
+static void read_log(struct log *l, const struct world *w) {
+    memset(l, 0, sizeof *l);
+    l->k = blocks - 2;
+    l->head = w->work[HEAD_WORD], l->next = w->work[NEXT_WORD], l->keys = w->work[KEYS_WORD], l->passed = w->work[PASSED_WORD];
+    l->end = 15 * l->k + l->next;
+    for (size_t i = 0; i < l->keys; i++) {
+        size_t page = w->work[INDEX_WORD + i], from_oldest = (page / 16 + 2 * blocks - l->head - 2) % blocks, place = 15 * from_oldest + page % 16;
+        if (page / 16 >= blocks || page % 16 >= 15 || place >= l->end) found("the index has page %zu, which is not of the log", page);
+        l->rows[place]++;
+    }
+}
+
 /* ---- cost and wear */
 
+enum { MOST_FAILURES = 5, NOT_CLEAN = 1000000 }; /* power failures since the zone was clean, for which a bound is promised; an old chip's zone never was */
+
 static struct wear wear; /* of this history */
+static size_t since; /* power failures since the zone was clean */
+static size_t healing; /* whole puts and deletes since the last failure, or since an old chip was taken over, while the zone isn't clean */
+static uint64_t at_first; /* the potential of the chip that the history began with */
 static struct {
-    size_t erases, writes; /* of a call */
+    size_t erases, writes; /* of a call, whatever was before it */
+    size_t writes_after[MOST_FAILURES + 1]; /* of a call, so many failures after the zone was clean */
+    size_t wild_erases, wild_writes; /* of a call on an area of lies */
     size_t calm, rough, failures; /* unevenness of a history without a power failure; with some, and how many */
-    size_t percent; /* erases, in percent of n/7 + q, once n is 100 */
+    size_t percent; /* erases, in percent of n/6 + q, once n is 100 */
+    size_t healed; /* the most of these until it was clean */
 } worst[MAX_B + 1]; /* by the number of blocks */
 
-static void check_cost(const struct trace *t) {
-    size_t erases = 0, room = FLOATSTORE_ROOM(blocks);
+static size_t larger(size_t a, size_t b) { return a < b ? b : a; }
+
+/* Whether the zone before the cursor's bound is clean: the last call's looks ended there. */
+static int is_clean(const struct world *w) { return w->work[PASSED_WORD] + 1 >= w->work[NEXT_WORD] + (blocks - 2); }
+
+/* Cleaning is in time, but for 8 places of each failure: whichever place j is taken as an end, what stands before it and has to be carried fits behind `next` before the
+ * cursor comes there, with 8 looks a call. */
+static void check_timely(const struct world *w, size_t q) {
+    struct log l;
+    size_t below = 0, d = 8 * (1 + (q < NOT_CLEAN ? q : 8 * blocks));
+    read_log(&l, w);
+    for (size_t j = 0; j <= l.end; j++) {
+        if (j >= l.passed && 8 * (l.next + below) > l.passed + 7 * j + d)
+            found("cleaning is late: next %zu, cursor %zu, %zu values below place %zu of the log, %zu failures since", l.next, l.passed, below, j, q);
+        if (j == l.end) break;
+        if (l.rows[j] && j < l.passed) found("the cursor, at %zu, has passed a value at %zu", l.passed, j);
+        if (l.rows[j] > 1) found("two keys have one page");
+        below += l.rows[j];
+    }
+}
+
+/* 6k for each page of the head, and the age of each value. Wear that is to come can't exceed it. */
+static uint64_t potential(const struct log *l) {
+    uint64_t sum = 6 * l->k * l->next;
+    for (size_t j = 0; j < l->end; j++) sum += l->rows[j] * (l->end - 1 - j);
+    return sum;
+}
+
+/* A put or delete, whole or cut: a block that is opened takes 90 k from the potential, and the call adds 14 k at most. So 6 calls pay an erase. */
+static void check_potential(const struct world *before, const struct world *after) {
+    struct log a, b;
+    read_log(&a, before);
+    read_log(&b, after);
+    uint64_t opened = (b.head + blocks - a.head) % blocks;
+    if (potential(&b) + 90 * a.k * opened > potential(&a) + 14 * a.k)
+        found("potential %llu becomes %llu, with %llu blocks opened", (unsigned long long)potential(&a), (unsigned long long)potential(&b), (unsigned long long)opened);
+}
+
+/* What any call may cost, whatever chip and area are; and what it may after so many failures since the zone was clean. */
+static void check_cost(size_t erases, size_t writes, size_t q) {
+    if (erases > blocks - 2 || writes > 16 * (blocks - 2) + 15) found("a call does %zu erases and %zu writes", erases, writes);
+    if (q <= MOST_FAILURES && (erases > 1 || writes > 10 + q)) found("a call does %zu erases and %zu writes, %zu failures after the zone was clean", erases, writes, q);
+}
+
+static void count_cost(const struct trace *t) {
+    size_t erases = 0;
     for (size_t i = 0; i < t->len; i++) erases += t->op[i].kind == ERASE;
     size_t writes = t->len - erases;
-    if (erases > room / 15 + 1 || writes > room + blocks) found("a call does %zu erases and %zu writes", erases, writes);
-    if (erases > worst[blocks].erases) worst[blocks].erases = erases;
-    if (writes > worst[blocks].writes) worst[blocks].writes = writes;
+    check_cost(erases, writes, since);
+    worst[blocks].erases = larger(worst[blocks].erases, erases);
+    worst[blocks].writes = larger(worst[blocks].writes, writes);
+    if (since <= MOST_FAILURES) worst[blocks].writes_after[since] = larger(worst[blocks].writes_after[since], writes);
+}
+
+/* The zone after a call of the history, which was cut or not. */
+static void follow_zone(int was_cut) {
+    if (since < NOT_CLEAN) since += (size_t)was_cut;
+    healing = was_cut ? 0 : healing + (since > 0);
+    if (is_clean(&now)) {
+        worst[blocks].healed = larger(worst[blocks].healed, healing);
+        since = healing = 0;
+    }
+    check_timely(&now, since);
 }
 
 static void check_wear(void) {
@@ -308,11 +397,12 @@ static void check_wear(void) {
         if (wear.of[b] > most) most = wear.of[b];
     }
     if (most - least > 1 + tally.failures) found("wear is uneven: a block was erased %zu times and another %zu", most, least);
-    if (wear.all > tally.failures && 7 * (wear.all - tally.failures) > tally.changes)
-        found("%zu erases after %llu puts and deletes", wear.all, (unsigned long long)tally.changes);
-    size_t percent = (size_t)(700 * wear.all / (tally.changes + 7 * tally.failures));
-    if (tally.changes >= 100 && percent > worst[blocks].percent) worst[blocks].percent = percent;
-    if (tally.failures == 0 && most - least > worst[blocks].calm) worst[blocks].calm = most - least;
+    /* beside n/6 + q what the first chip's potential pays, which is nothing on a blank one */
+    uint64_t due = tally.failures + (at_first + 90 * (blocks - 2) - 1) / (90 * (blocks - 2));
+    if (wear.all > due && 6 * (wear.all - due) > tally.changes) found("%zu erases after %llu puts and deletes", wear.all, (unsigned long long)tally.changes);
+    size_t percent = (size_t)(600 * wear.all / (tally.changes + 6 * tally.failures));
+    if (tally.changes >= 100 && !at_first) worst[blocks].percent = larger(worst[blocks].percent, percent);
+    if (tally.failures == 0) worst[blocks].calm = larger(worst[blocks].calm, most - least);
     if (tally.failures && most - least > worst[blocks].rough) worst[blocks].rough = most - least, worst[blocks].failures = (size_t)tally.failures;
 }
 
@@ -370,11 +460,8 @@ static void cut(struct world *w, struct map *m, const struct change *c, size_t k
 
 static void choose(struct change *c, const struct map *m, size_t keys, uint32_t deletes);
 
-static struct world now, worlds[DEPTH], whole;
-static struct map map;
-
-/* On a copy: the call is cut at k, tried again and cut again, or another call is; so deep. */
-static void cut_deep(const struct world *w, const struct map *m, const struct change *c, size_t k, const struct op *op, int kind, int depth) {
+/* On a copy: the call is cut at k, q failures after the zone was clean; tried again and cut again, or another call is; so deep. */
+static void cut_deep(const struct world *w, const struct map *m, const struct change *c, size_t k, const struct op *op, int kind, int depth, size_t q) {
     static struct map maps[DEPTH];
     struct world *there = &worlds[depth];
     struct map *then = &maps[depth];
@@ -382,6 +469,9 @@ static void cut_deep(const struct world *w, const struct map *m, const struct ch
     copy_world(there, w);
     *then = *m;
     cut(there, then, c, k, op, kind);
+    q = is_clean(there) ? 0 : q + (q < NOT_CLEAN);
+    check_timely(there, q);
+    check_potential(w, there);
     if (depth + 1 == DEPTH || chance(2)) return;
     if (chance(4) == 0) choose(&again, then, FLOATSTORE_ROOM(blocks), 30);
     if (!again.to.has && !then->of[again.key].has) return;
@@ -390,10 +480,13 @@ static void cut_deep(const struct world *w, const struct map *m, const struct ch
     copy_world(&whole, there);
     if (run(&whole, &again, noise) != 0) found("after a cut and a start a call is refused");
     tally.nested++;
-    size_t len = (size_t)(FLOATSTORE_NO_FAULT - whole.fuse), at = chance(3) ? 1 + chance((uint32_t)len) : 1; /* an erase comes first */
+    size_t len = (size_t)(FLOATSTORE_NO_FAULT - whole.fuse), at = chance(3) ? 1 + chance((uint32_t)len) : 1;
+    if (q <= MOST_FAILURES && len > 11 + q) found("a call does %zu operations, %zu failures after the zone was clean", len, q);
+    check_timely(&whole, is_clean(&whole) ? 0 : q);
+    check_potential(there, &whole);
     struct op next;
     if (!watch_one(&next, at, call_again, &again, there)) found("after a cut and a start an operation is neither an erase nor a write");
-    cut_deep(there, then, &again, at, &next, kind_for(&next), depth + 1);
+    cut_deep(there, then, &again, at, &next, kind_for(&next), depth + 1, q);
 }
 
 /* ---- an old chip */
@@ -435,6 +528,36 @@ static void refused_as_it_should(const struct change *c, int64_t want) {
     if (memcmp(chip, now.chip, now.chip_len) != 0) found("a refused call changed the chip");
 }
 
+/* A word of an area of lies: the right one, one below a bound, anything. */
+static uint32_t lie(uint32_t right, uint32_t below) {
+    uint32_t kind = chance(8);
+    return kind < 3 ? right : kind < 7 ? chance(below) : chance(2) ? 0xFFFFFFFFu - chance(3) : chance(0x80000000u);
+}
+
+/* The call on a copy with an area of lies: what it answers and writes is nobody's business, but it costs what any call may. */
+static void try_lies(const struct change *c) {
+    static const uint8_t noise[FLOATSTORE_NOISE];
+    struct op op;
+    size_t erases = 0, b = blocks, pages = 16 * b;
+    copy_world(&whole, &now);
+    uint32_t *word = whole.work;
+    uint32_t swaps = chance(3) ? chance(4) : chance((uint32_t)(2 * FLOATSTORE_ROOM(b)));
+    word[HEAD_WORD] = lie(word[HEAD_WORD], (uint32_t)b), word[NEXT_WORD] = chance(2) ? 15 : lie(word[NEXT_WORD], 16);
+    word[KEYS_WORD] = lie(word[KEYS_WORD], (uint32_t)FLOATSTORE_ROOM(b) + 1), word[PASSED_WORD] = lie(word[PASSED_WORD], (uint32_t)(16 * b));
+    for (uint32_t i = 0; i < swaps; i++) word[INDEX_WORD + chance((uint32_t)FLOATSTORE_ROOM(b))] = lie(word[INDEX_WORD], (uint32_t)pages + 1);
+    copy_world(&meant, &whole);
+    meant.fuse = FLOATSTORE_NO_FAULT;
+    int64_t answer = run(&meant, c, noise);
+    size_t len = (size_t)(FLOATSTORE_NO_FAULT - meant.fuse);
+    if (answer > 0 || answer < -8 || answer == -7) found("a call on an area of lies answers %lld", (long long)answer);
+    for (size_t k = 1; k <= len; k++) /* a page of ones may be written where the index lists a blank page: that is seen as no operation */
+        erases += watch_one(&op, k, call_again, c, &whole) && op.kind == ERASE;
+    check_cost(erases, len - erases, NOT_CLEAN);
+    worst[b].wild_erases = larger(worst[b].wild_erases, erases), worst[b].wild_writes = larger(worst[b].wild_writes, len - erases);
+}
+
+static size_t storm; /* so many calls to come are cut one after the other, most of them at the record: each spoils a place, and cleaning falls behind */
+
 /* One put or delete, watched, cut at every operation on copies, and then made: whole, or in one of `risk` cut short. */
 static void step(const struct change *c, uint32_t risk) {
     static struct trace t;
@@ -447,25 +570,33 @@ static void step(const struct change *c, uint32_t risk) {
         return;
     }
     observe(&t, &now, c);
-    check_cost(&t);
+    count_cost(&t);
+    if (store->bears_lies && chance(8) == 0) try_lies(c);
     for (size_t k = 1; k <= t.len; k++) {
         const struct op *op = &t.op[k - 1];
         int sure = (int)chance(NOISES); /* no operation goes without a cut, and no erase without all its forgeries */
         for (int kind = 0; kind < (op->kind == ERASE ? KINDS : NOISES); kind++)
-            if (kind >= NOISES || kind == sure || chance(t.len > 1 ? 2 : 4) == 0) cut_deep(&now, &map, c, k, op, kind, 0);
+            if (kind >= NOISES || kind == sure || chance(t.len > 1 ? 2 : 4) == 0) cut_deep(&now, &map, c, k, op, kind, 0, since);
     }
     if (store->also) store->also(&now, &map, c);
     tally.changes++;
-    size_t k = 1 + chance((uint32_t)t.len);
-    if (risk && chance(risk) == 0) {
+    if (risk && !storm && chance(8 * risk) == 0) storm = chance(2) ? 5 : 1 + chance(30);
+    size_t k = storm && chance(4) ? t.len : 1 + chance((uint32_t)t.len);
+    int is_cut = storm || (risk && chance(risk) == 0);
+    copy_world(&whole, &now);
+    if (is_cut) {
+        const struct op *op = &t.op[k - 1];
         tally.failures++;
         count_wear(&wear, t.op, k);
-        cut(&now, &map, c, k, &t.op[k - 1], kind_for(&t.op[k - 1]));
+        cut(&now, &map, c, k, op, storm && op->kind == WRITE ? BITS : kind_for(op));
+        storm -= storm > 0;
     } else {
         count_wear(&wear, t.op, t.len);
         if (run(&now, c, noise) != 0) found("a call that may not be refused is");
         make(&map, c);
     }
+    follow_zone(is_cut);
+    check_potential(&whole, &now);
     check_wear();
 }
 
@@ -490,11 +621,37 @@ static void format_wild(void) {
     if (count(&now) != -8) found("a call after a format, with no start, does not answer -8");
 }
 
+/* Puts and deletes by a store that writes as version 0.9.0 did. Then this one takes the chip over: what is to be cleaned has been left behind. */
+static void take_over(void) {
+    static uint8_t noise[FLOATSTORE_NOISE];
+    const struct store *mine = store;
+    size_t room = FLOATSTORE_ROOM(blocks), keys = chance(2) ? room : 1 + chance((uint32_t)room);
+    uint32_t in_turn = chance(2), hot = in_turn ? 1 : chance(3), deletes = in_turn ? 0 : chance(40);
+    store = mine->earlier;
+    if (start(&now) != 0) found("the earlier store can't start");
+    size_t n = in_turn ? 15 * (blocks - 1) - chance(chance(2) ? 20 : 6 * (uint32_t)blocks) : 10 * blocks + chance(30 * (uint32_t)blocks);
+    for (size_t i = 0; i < n; i++) {
+        struct change c;
+        choose(&c, &map, hot && chance(in_turn ? 100 : 8) ? hot : keys, deletes);
+        if (in_turn && i < room) c.key = i; /* the oldest blocks then have nothing but live values, and the head is nearly full */
+        if (!map.of[c.key].has && (!c.to.has || map.count >= room)) continue;
+        if (run(&now, &c, noise) != 0) found("the earlier store refuses a call");
+        make(&map, &c);
+    }
+    store = mine;
+    if (start(&now) != 0) found("start of a chip of the earlier store is refused");
+    if (!same(&now, &map)) found("a chip of the earlier store has another map");
+    struct log l;
+    read_log(&l, &now);
+    at_first = potential(&l);
+    since = is_clean(&now) ? 0 : NOT_CLEAN;
+}
+
 static void history(uint64_t seed) {
-    static const size_t sizes[4] = {4, 5, 8, 16};
+    static const size_t sizes[5] = {4, 5, 6, 8, 16};
     static const uint32_t risks[4] = {0, 3, 12, 60};
     chance_state = seed * 1000003;
-    blocks = sizes[seed % 4];
+    blocks = MAX_B == 16 ? sizes[seed % 5] : MAX_B;
     now.chip_len = FLOATSTORE_CHIP_LEN(blocks), now.work_len = FLOATSTORE_WORK_LEN(blocks);
     memset(&wear, 0, sizeof wear);
     memset(&map, 0, sizeof map);
@@ -502,8 +659,10 @@ static void history(uint64_t seed) {
     for (size_t i = 0; i < now.work_len; i++) now.work[i] = chance(7);
     now.fuse = FLOATSTORE_NO_FAULT;
     tally.seed = seed, tally.calls = tally.changes = tally.failures = 0, tally.at = "";
+    at_first = since = healing = storm = 0;
     if (chance(3) == 0) format_wild();
     if (start(&now) != 0) found("start of a blank chip is refused");
+    if (store->earlier && chance(4) == 0) take_over();
     size_t room = FLOATSTORE_ROOM(blocks);
     uint32_t risk = risks[chance(4)];
     for (int phase = 0; phase < 4; phase++) {
@@ -534,10 +693,15 @@ static void report(void) {
            (unsigned long long)tally.histories, (unsigned long long)tally.cuts, (unsigned long long)tally.nested, (unsigned long long)tally.forged);
     printf("  %llu pages turned to the old form on the way, and %llu made to look sound in the form that they haven't\n", (unsigned long long)tally.aged,
            (unsigned long long)tally.crossed);
-    for (size_t b = 4; b <= MAX_B; b++)
-        if (worst[b].writes)
-            printf("  %2zu blocks, worst and bound: a call's erases %zu of %zu, its page writes %zu of %zu; unevenness %zu of 1 with no power failure, %zu of %zu with; all erases %zu%% of n/7 + q\n",
-                   b, worst[b].erases, FLOATSTORE_ROOM(b) / 15 + 1, worst[b].writes, FLOATSTORE_ROOM(b) + b, worst[b].calm, worst[b].rough, 1 + worst[b].failures, worst[b].percent);
+    for (size_t b = 4; b <= MAX_B; b++) {
+        if (!worst[b].writes) continue;
+        printf("  %2zu blocks, worst and bound: a call's page writes %zu of 10, with 1 to 5 power failures since the zone was clean", b, worst[b].writes_after[0]);
+        for (size_t q = 1; q <= MOST_FAILURES; q++) printf(" %zu", worst[b].writes_after[q]);
+        printf(" of 11 to 15, erases 1; with more, or on an old chip, %zu erases of %zu, %zu writes of %zu; on an area of lies %zu and %zu\n", worst[b].erases, b - 2,
+               worst[b].writes, 16 * (b - 2) + 15, worst[b].wild_erases, worst[b].wild_writes);
+        printf("             unevenness %zu of 1 with no power failure, %zu of %zu with; all erases %zu%% of n/6 + q; after failures or on an old chip the zone was clean %zu calls later\n",
+               worst[b].calm, worst[b].rough, 1 + worst[b].failures, worst[b].percent, worst[b].healed);
+    }
 }
 
 int laboratory(const char *name, const struct store *tried, const char *seconds, const char *first) {
@@ -549,7 +713,7 @@ int laboratory(const char *name, const struct store *tried, const char *seconds,
     time_t until = time(NULL) + atoi(seconds);
     uint64_t seed = first ? (uint64_t)strtoull(first, NULL, 10) : 1;
     do history(seed++);
-    while (time(NULL) < until || tally.histories < 4); /* each size once at least */
+    while (time(NULL) < until || tally.histories < 5); /* each size once at least */
     report();
     return 0;
 }

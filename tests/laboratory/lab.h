@@ -7,7 +7,10 @@
 #include <stddef.h>
 #include <stdint.h>
 
-enum { MAX_B = 16, ROOM = 8 * (MAX_B - 2), KEYS = ROOM + 8 };
+#ifndef LAB_BLOCKS
+#define LAB_BLOCKS 16 /* the largest chip that is tried. Where it is another, all are of that size */
+#endif
+enum { MAX_B = LAB_BLOCKS, ROOM = 8 * (MAX_B - 2), KEYS = ROOM + 8 };
 
 /* The model of the map: keys are numbered, in their order. */
 struct entry {
@@ -33,6 +36,8 @@ struct store {
     int64_t (*next)(const uint8_t *, size_t, const uint32_t *, size_t, const uint64_t *, const uint8_t *, size_t, uint8_t *, size_t); /* may be none */
     int64_t (*start_seeing)(const uint8_t *, size_t, uint32_t *, size_t, const uint64_t *, struct floatstore_seen *); /* the same */
     void (*also)(const struct world *, const struct map *, const struct change *); /* what else is tried before each change, on copies; may be none */
+    const struct store *earlier; /* one that writes chips as version 0.9.0 did, which this one must take over; may be none */
+    int bears_lies; /* whether it may be lent an area of lies: a twin may not */
 };
 
 extern const struct store library; /* the proved one, on a chip in memory */
@@ -57,12 +62,18 @@ void make(struct map *m, const struct change *c);
 /* Whether the store says of each key what the map says, and gives the map's keys in a walk. */
 int same(struct world *w, const struct map *m);
 
-/* What a put (or a delete: no value) did to a chip, on which `before` stood: it answered, and left so much of the fuse. The other store must do the same. */
+/* The first words of the work area (crates/lent); from word 16 on stands the index. */
+enum { MARK_WORD, HEAD_WORD, NEXT_WORD, KEYS_WORD, PASSED_WORD, WORDS, INDEX_WORD = 16 };
+
+/* What a put (or a delete: no value) did to a chip, on which `before` stood, with an area that began so: it answered, and left so much of the fuse. The other store must do
+ * the same, and put down the same words. Its area is made by a start of its own, but for the cursor: that is where the history has brought it. */
 struct did {
     const uint8_t *before, *chip, *noise, *key, *value;
     size_t len, key_len, value_len;
     uint64_t fuse, left;
     int64_t answer;
+    const uint32_t *work; /* as the call left it */
+    uint32_t passed; /* before the call */
 };
 void mirror(const struct store *other, const struct did *d);
 

@@ -2,6 +2,7 @@
 #include <string.h>
 
 int twin_bug = RIGHT;
+size_t twin_looks = 8;
 const char *const twin_bugs[BUGS] = {
     "none",
     "the head is sealed before the last copy",
@@ -12,10 +13,16 @@ const char *const twin_bugs[BUGS] = {
     "the spare is erased in the first round too",
     "a page is believed that is sound in either form, whatever byte 0 says",
     "of an old page half of the flipped copy is compared",
+    "the cursor isn't moved back at an opening",
+    "a zone wider by 7: carries beyond it",
+    "a zone narrower by 1",
+    "seven looks",
+    "a dead value is carried",
+    "a carry leaves the index entry",
 };
 
 /* The words of the work area. The index is in no order: a twin needn't be fast. */
-enum { MARK, HEAD, NEXT, KEYS, INDEX = 16 };
+enum { MARK, HEAD, NEXT, KEYS, PASSED, INDEX = 16 };
 enum { NOT_STARTED, READY, DARK };
 enum { PLACES = 15, PAGE = 256, BLOCK = 4096, COUNT = 254, OLD_LONGEST = 96, LONGEST = 220, VALUE = 1, NOTE = 2, SEAL = 3 };
 
@@ -112,6 +119,17 @@ static void note_page(const uint8_t *chip, uint32_t *work, size_t p) {
     }
 }
 
+/* The entry that is page p; the number of keys if none is. */
+static size_t entry_of(const uint32_t *work, size_t p) {
+    size_t i;
+    for (i = 0; i < work[KEYS] && work[INDEX + i] != p; i++) {}
+    return i;
+}
+
+/* ---- the log: the places of all blocks but the spare, from the oldest block to the head */
+
+static size_t page_of_place(const uint32_t *work, size_t b, size_t place) { return 16 * ((work[HEAD] + 2 + place / PLACES) % b) + place % PLACES; }
+
 /* ---- start */
 
 static size_t find_head(const uint8_t *chip, size_t b) {
@@ -145,10 +163,44 @@ int64_t twin_start(const uint8_t *chip, size_t chip_len, uint32_t *work, size_t 
     size_t next = PLACES;
     while (next > 0 && is_blank(chip + BLOCK * h + PAGE * (next - 1))) next--;
     work[HEAD] = (uint32_t)h, work[NEXT] = (uint32_t)next, work[MARK] = READY;
+    /* the cursor: the first place that has a live value */
+    size_t end = PLACES * (b - 2) + next, place = 0;
+    while (place < end && entry_of(work, page_of_place(work, b, place)) == work[KEYS]) place++;
+    work[PASSED] = (uint32_t)place;
     return 0;
 }
 
 /* ---- put and delete */
+
+/* The value on page `from` is written anew on page `to`. Answers whether the power stayed. */
+static int carry(uint8_t *chip, size_t from, size_t to, uint64_t *fuse, const uint8_t *noise) {
+    const uint8_t *old = chip + PAGE * from;
+    uint8_t copy[PAGE];
+    fill_page(copy, VALUE, old + 16, old[2], old + 32, old[3]);
+    chip_write(chip, to, copy, fuse, noise);
+    return *fuse != 0;
+}
+
+/* So many looks at the places behind the cursor, while the head has fewer than `top` pages and the cursor is in its zone: what is live there is carried to the head.
+ * Answers whether the power stayed. */
+static int sweep(uint8_t *chip, size_t b, uint32_t *work, uint64_t *fuse, const uint8_t *noise, size_t *looks, size_t top) {
+    size_t zone = b - 2 + (twin_bug == WIDE ? 7 : 0) - (twin_bug == NARROW);
+    for (; *looks && work[NEXT] < top && work[PASSED] < work[NEXT] + zone; --*looks, work[PASSED]++) {
+        size_t from = page_of_place(work, b, work[PASSED]), to = 16 * work[HEAD] + work[NEXT], i = entry_of(work, from);
+        if (i == work[KEYS] && !(twin_bug == CARRIES_DEAD && says(chip + PAGE * from) == VALUE)) continue;
+        if (!carry(chip, from, to, fuse, noise)) return 0;
+        if (twin_bug != LEAVES_ENTRY) note_page(chip, work, to);
+        work[NEXT]++;
+    }
+    return 1;
+}
+
+/* The oldest block has left the log: places have numbers less by 15, and those that the opening looked at are passed. */
+static void move_back(uint32_t *work, size_t *looks) {
+    size_t made = work[PASSED] < PLACES ? PLACES - work[PASSED] : 0;
+    *looks -= made < *looks ? made : *looks;
+    if (twin_bug != STAYS_PUT) work[PASSED] = (uint32_t)(work[PASSED] + made - PLACES);
+}
 
 /* Opens the next block. Answers whether the power stayed. */
 static int open_next(uint8_t *chip, size_t b, uint32_t *work, uint64_t *fuse, const uint8_t *noise) {
@@ -161,14 +213,10 @@ static int open_next(uint8_t *chip, size_t b, uint32_t *work, uint64_t *fuse, co
     }
     fill_page(page, SEAL, noise, 0, noise, 0);
     for (size_t j = 0; *fuse && j < PLACES; j++) {
-        size_t from = 16 * oldest + j, to = 16 * spare + copies, i;
-        for (i = 0; i < work[KEYS] && work[INDEX + i] != from; i++) {}
+        size_t from = 16 * oldest + j, to = 16 * spare + copies, i = entry_of(work, from);
         if (i == work[KEYS]) continue;
         if (twin_bug == SEALS_EARLY && copies + 1 == live) chip_write(chip, 16 * h + PLACES, page, fuse, noise);
-        const uint8_t *old = chip + PAGE * from;
-        uint8_t copy[PAGE];
-        fill_page(copy, VALUE, old + 16, old[2], old + 32, old[3]);
-        chip_write(chip, to, copy, fuse, noise);
+        carry(chip, from, to, fuse, noise);
         work[INDEX + i] = (uint32_t)to;
         copies++;
     }
@@ -184,9 +232,12 @@ static int64_t lent(size_t chip_len, const uint32_t *work, size_t work_len, cons
 }
 
 static int64_t change(uint8_t *chip, size_t chip_len, uint32_t *work, uint64_t *fuse, const uint8_t *noise, const uint8_t *page) {
-    size_t b = chip_len / BLOCK;
-    int power = 1;
-    while (power && work[NEXT] == PLACES) power = open_next(chip, b, work, fuse, noise);
+    size_t b = chip_len / BLOCK, looks = twin_looks - (twin_bug == SEVEN);
+    int power = sweep(chip, b, work, fuse, noise, &looks, PLACES);
+    if (power && work[NEXT] == PLACES) {
+        for (; power && work[NEXT] == PLACES; move_back(work, &looks)) power = open_next(chip, b, work, fuse, noise);
+        power = power && sweep(chip, b, work, fuse, noise, &looks, PLACES - 1); /* a place is left for the record */
+    }
     size_t p = 16 * work[HEAD] + work[NEXT];
     if (power) chip_write(chip, p, page, fuse, noise);
     if (!*fuse) return work[MARK] = DARK, -7;

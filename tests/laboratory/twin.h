@@ -15,9 +15,16 @@ enum {
     ERASES_BLANK, /* the spare is erased in the first round too, where it is blank: right while a cut erase only turned bits from 0 to 1 */
     EITHER_FORM, /* a page is believed that is sound in either form, whatever byte 0 says: mixed values, by cuts that were made for it */
     HALF_FLIPPED, /* of an old page the flipped copy of the first 64 bytes alone is compared: mixed values on old chips */
+    STAYS_PUT, /* the cursor isn't moved back when a block is opened: it runs ahead, nothing is carried, and an opening copies a whole block */
+    WIDE, /* the zone is wider by 7 places: carries beyond it, which wear more than they save */
+    NARROW, /* the zone is narrower by 1: a value may be left for the opening */
+    SEVEN, /* seven looks a call: the same */
+    CARRIES_DEAD, /* a value is carried that a later record overrides: it comes back */
+    LEAVES_ENTRY, /* a carry leaves the index entry where it was: the value is copied once more */
     BUGS
 };
 extern int twin_bug;
+extern size_t twin_looks; /* places that a put or delete looks at: 8. With 0 it is the store of version 0.9.0, which cleaned at openings alone */
 extern const char *const twin_bugs[BUGS];
 
 int64_t twin_format(uint8_t *chip, size_t chip_len, uint32_t *work, size_t work_len, uint64_t *fuse, const uint8_t *noise);

@@ -37,7 +37,7 @@ void board_save(const char *name, const void *bytes, uint32_t len) {
 
 #define PAINT 0x5AFE57ACu
 #define OWN_FRAME 16 /* words: the painter's own frame is left alone */
-#define PAINTED 768 /* words: a call that takes more is told as taking all of these */
+#define PAINTED 1536 /* words: a call that takes more is told as taking all of these */
 static volatile uint32_t *painted_to;
 __attribute__((noinline)) void board_paint(void) {
     uint32_t here;

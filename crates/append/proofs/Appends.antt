@@ -18,7 +18,7 @@ use Rattle.log.specs.Key.{Key}
 use Rattle.log.specs.Map.{Map, lookup, alter, Sorted, keys}
 use Rattle.log.specs.Log.{Placed, placed, pages}
 use Rattle.log.specs.Ring.{Chip, chipOf, Ring, next, tableAt, table, mapOf, head, room, Ready}
-use Rattle.log.specs.Call.{resting, Wrote, CutWrote, Trace, append, append-cut}
+use Rattle.log.specs.Call.{resting, Wrote, CutWrote, Cursor, cursor, begin, Swept, Trace, append, append-cut, Goes, Ends}
 use Rattle.log.specs.Answers.{missing}
 use Rattle.log.proofs.MapLaws.{orZero}
 use Rattle.log.proofs.MapMore.{sorted-mapV}
@@ -34,12 +34,11 @@ use Rattle.index.specs.Answers.{FindsBy, Finds, putAt}
 use Rattle.index.specs.declared.Found.{Found}
 use Rattle.index.specs.declared.Found.the-variants.{At, Missing}
 use Rattle.index.proofs.Rows.{table-keys, table-ordered, table-put, table-take}
-use Rattle.opening.specs.Steps.{Rooms}
 use Rattle.opening.specs.declared.Room.the-variants.{Place, Gone, Stuck}
 use Rattle.append.specs.declared.Change.{Change}
 use Rattle.append.specs.declared.Change.the-variants.{Made, Denied, Lost, Broken}
 use Rattle.lent.specs.Tested.{number}
-use Rattle.append.specs.Steps.{entered, isMissing, denial, denialIn, AppendsBy, Appends, AltersBy, Alters}
+use Rattle.append.specs.Steps.{entered, isMissing, denial, denialIn, Places, AppendsBy, Appends, AltersBy, Alters}
 use Rattle.append.proofs.Runs.{record-writable}
 use Rattle.index.proofs.Values.{found-value, missed-value}
 use Rattle.lent.proofs.Held.{map-rows}
@@ -101,13 +100,13 @@ module _ (B : ℕ) (big : 4 ≤ B) (c : List ℕ) (size : length c ≡ 4096 * B)
       ∙ table-put B big c size key found finds (placed (place B big (chipOf c) h) value)
       ∙ ap (pages B) (sym (put-table B big (chipOf c) (chipOf c′) h r free (recordOf false key value) w))
 
-module _ (B : ℕ) (big : 4 ≤ B) (noise c ix : List ℕ) (size : length c ≡ 4096 * B) (f h y n : ℕ) (found : Found) (note : Bool) (key value : List ℕ) (l : y < 15) where
+module _ (B : ℕ) (big : 4 ≤ B) (noise c ix : List ℕ) (size : length c ≡ 4096 * B) (f h y p n : ℕ) (found : Found) (note : Bool) (key value : List ℕ) (l : y < 15) where
   -- the page of the next place would not be blank
-  pub append-broken : blankAt c (16 * h + y) ≡ false → Appends B h y n found note key value noise c f ix c f ix Broken
+  pub append-broken : blankAt c (16 * h + y) ≡ false → Appends B h y p n found note key value noise c f ix c f ix Broken
   append-broken z =
       record {
         did = did-more (omega arith) (omega arith) (did-none c f);
-        right = λ lit r finds d. true≢false (sym (ap not z) ∙ next-blank (chipOf c) h 15 y (omega (arith, r .here)) l);
+        right = λ i t s lit r finds d. true≢false (sym (ap not z) ∙ next-blank (chipOf c) h 15 y (omega (arith, r .here)) l);
       }
 
   module _ (c′ new : List ℕ) (f′ : ℕ) (i : 256 * (16 * h + y) + 256 ≤ length c) (z : blankAt c (16 * h + y) ≡ true) (proper : Proper (recordOf note key value)) (g : f′ ≡ f - 1)
@@ -122,30 +121,30 @@ module _ (B : ℕ) (big : 4 ≤ B) (noise c ix : List ℕ) (size : length c ≡ 
     did = did-meant (16 * h + y) (recordPage x) new c c′ f f′ fit u w g
 
     -- the power went
-    pub append-lost : f′ ≡ 0 → Appends B h y n found note key value noise c f ix c′ f′ ix Lost
+    pub append-lost : f′ ≡ 0 → Appends B h y p n found note key value noise c f ix c′ f′ ix Lost
     unfolding did did-meant did-write
     append-lost gone =
         record {
           did = did;
-          right = λ lit r finds d.
+          right = λ k t s lit r finds d.
               let v : CutWrote (16 * h + y) (some x) (chipOf c) (chipOf c′) =
               subst (λ (e : List ℕ). CutWrote (16 * h + y) (some x) (chipOf c) (chipOf e)) (sym (write-went noise c c′ f f′ g (16 * h + y) (recordPage x) new u w lit gone))
               (cut-record noise (16 * h + y) c x proper fit) in (
                 gone,
-                subst (λ (k : ℕ). Trace B x (resting (chipOf c) h) (chipOf c′) (write (16 * h + k) (recordPage x) ∷ []) false) (sym (r .here))
-                    (append-cut (chipOf c) (chipOf c′) h (recordPage x) (omega (arith, r .here))
+                subst (λ (j : ℕ). Trace B x (cursor p k t) (resting (chipOf c) h) (chipOf c′) p (write (16 * h + j) (recordPage x) ∷ []) false) (sym (r .here))
+                    (append-cut (cursor p k t) (chipOf c) (chipOf c′) h (recordPage x) (omega (arith, r .here)) (subst (Swept B (cursor p k t)) (r .here) s)
                     (subst (λ (k : ℕ). CutWrote (16 * h + k) (some x) (chipOf c) (chipOf c′)) (r .here) v)),
               );
         }
 
     -- it stayed
     pub append-made : 0 < f′ → (ix′ : List ℕ) (m : ℕ) → m ≤ length ix′ → take m ix′ ≡ entered note found (16 * h + y) (take n ix)
-        → Appends B h y n found note key value noise c f ix c′ f′ ix′ (Made h (y + 1) m)
+        → Appends B h y p n found note key value noise c f ix c′ f′ ix′ (Made h (y + 1) m p)
     unfolding did did-meant did-write
     append-made on ix′ m long e =
         record {
           did = did;
-          right = λ lit r finds d.
+          right = λ j a s lit r finds d.
               let free : next (chipOf c) h < 15 = omega (arith, r .here) in
               let o : Wrote (16 * h + y) (some x) (chipOf c) (chipOf c′) =
               subst (λ (b : List ℕ). Wrote (16 * h + y) (some x) (chipOf c) (chipOf b)) (sym (write-stayed noise c c′ f f′ g (16 * h + y) (recordPage x) new u w on))
@@ -164,8 +163,8 @@ module _ (B : ℕ) (big : 4 ≤ B) (noise c ix : List ℕ) (size : length c ≡ 
                 subst (λ (k : ℕ). Ready B (chipOf c′) h k (take m ix′)) q
                     (put-ready B big (chipOf c) (chipOf c′) h (r .ring) free x t (take m ix′) rows (omega (arith, count))),
                 omega (arith, count, length-take-le m ix′ long),
-                subst (λ (k : ℕ). Trace B x (resting (chipOf c) h) (chipOf c′) (write (16 * h + k) (recordPage x) ∷ []) true) (sym (r .here))
-                    (append (chipOf c) (chipOf c′) h (recordPage x) free v),
+                subst (λ (k : ℕ). Trace B x (cursor p j a) (resting (chipOf c) h) (chipOf c′) p (write (16 * h + k) (recordPage x) ∷ []) true) (sym (r .here))
+                    (append (cursor p j a) (chipOf c) (chipOf c′) h (recordPage x) free (subst (Swept B (cursor p j a)) (r .here) s) v),
               );
         }
       where
@@ -185,7 +184,7 @@ module _ (B : ℕ) (big : 4 ≤ B) (c : List ℕ) (size : length c ≡ 4096 * B)
       go (At i) y = ap missing (sym (found-value B big c size (head B (chipOf c) + B) (15 * (head B (chipOf c) + B) + 15) key i y))
       go (Missing i) y = ap missing (sym (missed-value B big c size (head B (chipOf c) + B) (15 * (head B (chipOf c) + B) + 15) key i y))
 
-module _ (B : ℕ) (big : 4 ≤ B) (noise c ix : List ℕ) (size : length c ≡ 4096 * B) (f h y n : ℕ) (long : n ≤ length ix) (note : Bool) (key value : List ℕ) (found : Found)
+module _ (B : ℕ) (big : 4 ≤ B) (noise c ix : List ℕ) (size : length c ≡ 4096 * B) (f h y p n : ℕ) (long : n ≤ length ix) (note : Bool) (key value : List ℕ) (found : Found)
     (finds : Ordered c (take n ix) → Finds (keysOf c (take n ix)) key found) where
   known : Ready B (chipOf c) h y (take n ix) → Finds (keysOf c (take n ix)) key found
   known r = finds (subst (Ordered c) (sym (r .rows)) (table-ordered B big c size))
@@ -197,7 +196,7 @@ module _ (B : ℕ) (big : 4 ≤ B) (noise c ix : List ℕ) (size : length c ≡ 
       ap (λ (b : Bool). denial note b n B) (found-missing B big c size key found k)
       ∙ ap (λ (i : ℕ). denial note (missing (lookup key (mapOf B (chipOf c)))) i B) (sym (ready-count B (chipOf c) h y (take n ix) r ∙ length-take-le n ix long))
 
-  pub change-denied : (k : ℕ) → k ≡ denial note (isMissing found) n B → 0 < k → Alters B h y n note key value noise c f ix c f ix (Denied k)
+  pub change-denied : (k : ℕ) → k ≡ denial note (isMissing found) n B → 0 < k → Alters B h y p n note key value noise c f ix c f ix (Denied k)
   unfolding did-more did-none
   change-denied k e l =
       record { did = did-more (omega arith) (omega arith) (did-none c f); right = λ lit r. (e ∙ denial-is r, l, refl, refl) }
@@ -206,11 +205,12 @@ module _ (B : ℕ) (big : 4 ≤ B) (noise c ix : List ℕ) (size : length c ≡ 
     none-due : Ready B (chipOf c) h y (take n ix) → denialIn note key (mapOf B (chipOf c)) B ≡ 0
     none-due r = sym (denial-is r) ∙ sym e ∙ z
 
-    -- room was made, and the record appended
-    pub change-appended : (h₂ y₂ : ℕ) (c′ ix′ : List ℕ) (f′ : ℕ) (r : Change) → Rooms B n h y noise c f ix d g ix₁ (Place h₂ y₂)
-        → Appends B h₂ y₂ n found note key value noise d g ix₁ c′ f′ ix′ r → Alters B h y n note key value noise c f ix c′ f′ ix′ r
+    -- a place was found, and the record appended
+    pub change-appended : (h₂ y₂ p₂ l₂ : ℕ) (c′ ix′ : List ℕ) (f′ : ℕ) (r : Change)
+        → Places (B - 2) (16 * (B - 2) + 16) B n h y (begin p) noise c f ix d g ix₁ (Place h₂ y₂ p₂ l₂)
+        → Appends B h₂ y₂ p₂ n found note key value noise d g ix₁ c′ f′ ix′ r → Alters B h y p n note key value noise c f ix c′ f′ ix′ r
     unfolding did-more did-then
-    change-appended h₂ y₂ c′ ix′ f′ r a b =
+    change-appended h₂ y₂ p₂ l₂ c′ ix′ f′ r a b =
         record {
           did = did-more (omega arith) (omega arith) (did-then (a .did) (b .did));
           right = λ lit ready.
@@ -218,27 +218,27 @@ module _ (B : ℕ) (big : 4 ≤ B) (noise c ix : List ℕ) (size : length c ≡ 
               let size₂ : length d ≡ 4096 * B = did-length (a .did) ∙ size in
               let same : keysOf c (take n ix) ≡ keysOf d (take n ix₁) =
               ap (keysOf c) (ready .rows) ∙ table-keys B big c size ∙ ap keys (sym (m .2)) ∙ sym (table-keys B big d size₂) ∙ ap (keysOf d) (sym (m .1 .rows)) in
-              let none₂ : denialIn note key (mapOf B (chipOf d)) B ≡ 0 = ap (λ (p : Map (List ℕ)). denialIn note key p B) (m .2) ∙ none-due ready in
-              go (a .did .ops) (b .did .ops) r (none-due ready) (m .3 .then)
-              (b .right (m .0) (m .1) (subst (λ (ks : List Key). Finds ks key found) same (known ready)) none₂);
+              let none₂ : denialIn note key (mapOf B (chipOf d)) B ≡ 0 = ap (λ (q : Map (List ℕ)). denialIn note key q B) (m .2) ∙ none-due ready in
+              go (a .did .ops) (b .did .ops) (m .3 .0) r (none-due ready) (m .3 .2)
+              (b .right l₂ (m .3 .0) (m .3 .1) (m .0) (m .1) (subst (λ (ks : List Key). Finds ks key found) same (known ready)) none₂);
         }
       where
-        go : (os ps : List Op) (r : Change) → denialIn note key (mapOf B (chipOf c)) B ≡ 0
-            → ((x : Rec) (c″ : Chip) (qs : List Op) (b : Bool) → Trace B x (resting (chipOf d) h₂) c″ qs b → Trace B x (resting (chipOf c) h) c″ (os ++ qs) b)
-            → AppendsBy B (recordOf note key value) h₂ d c′ f′ ix′ ps r → AltersBy B note key value h c f c′ f′ ix′ (os ++ ps) r
-        go os ps (Made k₁ y₁ m) z t q = (q .0, q .1, q .2, z, t (recordOf note key value) (chipOf c′) ps true (q .3))
-        go os ps (Denied k₁) z t q = absurd q
-        go os ps Lost z t q = (q .0, z, t (recordOf note key value) (chipOf c′) ps false (q .1))
-        go os ps Broken z t q = q
+        go : (os ps : List Op) (t : ℕ) (r : Change) → denialIn note key (mapOf B (chipOf c)) B ≡ 0
+            → Goes B (begin p) (cursor p₂ l₂ t) (resting (chipOf c) h) (resting (chipOf d) h₂) os
+            → AppendsBy B (recordOf note key value) (cursor p₂ l₂ t) h₂ d c′ f′ ix′ ps r → AltersBy B note key value h p c f c′ f′ ix′ (os ++ ps) r
+        go os ps t (Made k₁ y₁ m q₁) z w q = (q .0, q .1, q .2, z, w .then (recordOf note key value) (chipOf c′) q₁ ps true (q .3))
+        go os ps t (Denied k₁) z w q = absurd q
+        go os ps t Lost z w q = (q .0, z, (p₂, w .then (recordOf note key value) (chipOf c′) p₂ ps false (q .1)))
+        go os ps t Broken z w q = q
 
-    -- the power went while room was made
-    pub change-gone : Rooms B n h y noise c f ix d g ix₁ Gone → Alters B h y n note key value noise c f ix d g ix₁ Lost
+    -- the power went before
+    pub change-gone : Places (B - 2) (16 * (B - 2) + 16) B n h y (begin p) noise c f ix d g ix₁ Gone → Alters B h y p n note key value noise c f ix d g ix₁ Lost
     unfolding did-more
     change-gone a =
         record {
           did = did-more (omega arith) (omega arith) (a .did);
-          right = λ lit r. let m = a .right lit r in (m .0, none-due r, m .1 .short (recordOf note key value));
+          right = λ lit r. let m = a .right lit r in (m .0, none-due r, (m .1 .stood, m .1 .short (recordOf note key value)));
         }
 
-    pub change-stuck : Rooms B n h y noise c f ix d g ix₁ Stuck → Alters B h y n note key value noise c f ix d g ix₁ Broken
+    pub change-stuck : Places (B - 2) (16 * (B - 2) + 16) B n h y (begin p) noise c f ix d g ix₁ Stuck → Alters B h y p n note key value noise c f ix d g ix₁ Broken
     change-stuck a = record { did = did-more (omega arith) (omega arith) (a .did); right = λ lit r. a .right lit r }

@@ -30,7 +30,7 @@ pub undenied-kept : (c : List ℕ) (f : ℕ) (ix c′ : List ℕ) (f′ : ℕ) (
 undenied-kept c f ix c′ f′ ix′ r u = record { says = go r (u .says) }
   where
     go : (r : Change) → UndeniedBy r → ChangeKeptBy c f ix c′ f′ ix′ r
-    go (Made h x m) v = tt
+    go (Made h x m p) v = tt
     go (Denied k) v = absurd v
     go Lost v = tt
     go Broken v = tt

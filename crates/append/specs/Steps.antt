@@ -9,7 +9,7 @@ use lib.ListN.{length, take}
 use Rattle.chip.specs.Play.{Op, Did}
 use Rattle.record.specs.Record.{mostValue, Rec, recordOf}
 use Rattle.log.specs.Answers.{missing}
-use Rattle.log.specs.Call.{resting, Trace}
+use Rattle.log.specs.Call.{resting, Cursor, cursor, begin, Swept, Trace, Goes, Ends}
 use Rattle.log.specs.Key.{Key}
 use Rattle.log.specs.Map.{Map, lookup}
 use Rattle.log.specs.Ring.{chipOf, room, mapOf, Ready}
@@ -18,6 +18,8 @@ use Rattle.index.specs.Index.{keysOf}
 use Rattle.index.specs.declared.Found.{Found}
 use Rattle.index.specs.declared.Found.the-variants.{At, Missing}
 use Rattle.lent.specs.Tested.{number}
+use Rattle.opening.specs.declared.Room.{Room}
+use Rattle.opening.specs.declared.Room.the-variants.{Place, Gone, Stuck}
 use Rattle.append.specs.declared.Change.{Change}
 use Rattle.append.specs.declared.Change.the-variants.{Made, Denied, Lost, Broken}
 
@@ -27,16 +29,16 @@ pub record Keyed (key value : List ℕ) : Type 0 where
   pub short-key : length key ≤ 16
   pub short-value : length value ≤ mostValue
 
--- the head, the next place and the number of keys after a change lie in their ranges
+-- the head, the next place, the number of keys and the cursor after a change lie in their ranges
 abbrev pub ChangeWithin : ℕ → ℕ → Change → Type 0
-ChangeWithin B n (Made h x m) = (h < B) × (x ≤ 15) × (m ≤ n + 1)
+ChangeWithin B n (Made h x m p) = (h < B) × (x ≤ 15) × (m ≤ n + 1) × (p < 4294967296)
 ChangeWithin B n (Denied k) = Unit {0}
 ChangeWithin B n Lost = Unit {0}
 ChangeWithin B n Broken = Unit {0}
 
 -- an append is never denied. (A record around it, here and below, so that antt finds the arguments)
 abbrev pub UndeniedBy : Change → Type 0
-UndeniedBy (Made h x m) = Unit {0}
+UndeniedBy (Made h x m p) = Unit {0}
 UndeniedBy (Denied k) = ⊥
 UndeniedBy Lost = Unit {0}
 UndeniedBy Broken = Unit {0}
@@ -46,7 +48,7 @@ pub record Undenied (r : Change) : Type 0 where
 
 -- a change that is denied leaves chip, fault script and index as they were
 abbrev pub ChangeKeptBy : List ℕ → ℕ → List ℕ → List ℕ → ℕ → List ℕ → Change → Type 0
-ChangeKeptBy c f ix c′ f′ ix′ (Made h x m) = Unit {0}
+ChangeKeptBy c f ix c′ f′ ix′ (Made h x m p) = Unit {0}
 ChangeKeptBy c f ix c′ f′ ix′ (Denied k) = (c′ ≡ c) × (f′ ≡ f) × (ix′ ≡ ix)
 ChangeKeptBy c f ix c′ f′ ix′ Lost = Unit {0}
 ChangeKeptBy c f ix c′ f′ ix′ Broken = Unit {0}
@@ -73,29 +75,44 @@ abbrev pub entered : Bool → Found → ℕ → List ℕ → List ℕ
 entered true f p ps = takeOut f ps
 entered false f p ps = putAt f p ps
 
--- ---- THE APPEND: memory is ready for the new chip, and the call has come to its end; or the power went. No other page than the one that is blank is written
-abbrev pub AppendsBy : ℕ → Rec → ℕ → List ℕ → List ℕ → ℕ → List ℕ → List Op → Change → Type 0
-AppendsBy B x h c c′ f′ ix′ ops (Made k y m) =
-    (0 < f′) × Ready B (chipOf c′) k y (take m ix′) × (m ≤ room B) × Trace B x (resting (chipOf c) h) (chipOf c′) ops true
-AppendsBy B x h c c′ f′ ix′ ops (Denied k) = ⊥
-AppendsBy B x h c c′ f′ ix′ ops Lost = (f′ ≡ 0) × Trace B x (resting (chipOf c) h) (chipOf c′) ops false
-AppendsBy B x h c c′ f′ ix′ ops Broken = ⊥
+-- ---- A PLACE FOR THE RECORD, from the cursor u on: memory is ready, the map is the one of before, the head has a place, and no look is left; or the power went
+abbrev pub PlacesBy : ℕ → ℕ → ℕ → Cursor → List ℕ → List ℕ → ℕ → List ℕ → List Op → Room → Type 0
+PlacesBy B n h u c c′ f′ ix′ ops (Place k y p l) =
+    (0 < f′) × Ready B (chipOf c′) k y (take n ix′) × (mapOf B (chipOf c′) ≡ mapOf B (chipOf c))
+    × ((t : ℕ) × Swept B (cursor p l t) y × Goes B u (cursor p l t) (resting (chipOf c) h) (resting (chipOf c′) k) ops)
+PlacesBy B n h u c c′ f′ ix′ ops Gone = (f′ ≡ 0) × Ends B u (resting (chipOf c) h) (chipOf c′) ops
+PlacesBy B n h u c c′ f′ ix′ ops Stuck = ⊥
 
-pub record Appends (B h y n : ℕ) (found : Found) (note : Bool) (key value noise c : List ℕ) (f : ℕ) (ix c′ : List ℕ) (f′ : ℕ) (ix′ : List ℕ) (r : Change) : Type 0 where
+-- where the head has y pages, with at most e erases and w writes
+pub record Places (e w B n h y : ℕ) (u : Cursor) (noise c : List ℕ) (f : ℕ) (ix c′ : List ℕ) (f′ : ℕ) (ix′ : List ℕ) (r : Room) : Type 0 where
+  pub did : Did e w noise c f c′ f′
+  pub right : 0 < f → Ready B (chipOf c) h y (take n ix) → PlacesBy B n h u c c′ f′ ix′ (did .ops) r
+
+-- ---- THE APPEND, where the cursor is u and no look is left: memory is ready for the new chip, and the call has come to its end; or the power went. No other page than
+-- the one that is blank is written
+abbrev pub AppendsBy : ℕ → Rec → Cursor → ℕ → List ℕ → List ℕ → ℕ → List ℕ → List Op → Change → Type 0
+AppendsBy B x u h c c′ f′ ix′ ops (Made k y m p) =
+    (0 < f′) × Ready B (chipOf c′) k y (take m ix′) × (m ≤ room B) × Trace B x u (resting (chipOf c) h) (chipOf c′) p ops true
+AppendsBy B x u h c c′ f′ ix′ ops (Denied k) = ⊥
+AppendsBy B x u h c c′ f′ ix′ ops Lost = (f′ ≡ 0) × Trace B x u (resting (chipOf c) h) (chipOf c′) (u .at) ops false
+AppendsBy B x u h c c′ f′ ix′ ops Broken = ⊥
+
+pub record Appends (B h y p n : ℕ) (found : Found) (note : Bool) (key value noise c : List ℕ) (f : ℕ) (ix c′ : List ℕ) (f′ : ℕ) (ix′ : List ℕ) (r : Change) : Type 0 where
   pub did : Did 0 1 noise c f c′ f′
-  pub right : 0 < f → Ready B (chipOf c) h y (take n ix) → Finds (keysOf c (take n ix)) key found → denialIn note key (mapOf B (chipOf c)) B ≡ 0
-      → AppendsBy B (recordOf note key value) h c c′ f′ ix′ (did .ops) r
+  pub right : (l t : ℕ) → Swept B (cursor p l t) y → 0 < f → Ready B (chipOf c) h y (take n ix) → Finds (keysOf c (take n ix)) key found
+      → denialIn note key (mapOf B (chipOf c)) B ≡ 0 → AppendsBy B (recordOf note key value) (cursor p l t) h c c′ f′ ix′ (did .ops) r
 
--- ---- THE CHANGE: a denial is the one that is due by the map, and then nothing happened; else it is made, or the power went under it
-abbrev pub AltersBy : ℕ → Bool → List ℕ → List ℕ → ℕ → List ℕ → ℕ → List ℕ → ℕ → List ℕ → List Op → Change → Type 0
-AltersBy B note key value h c f c′ f′ ix′ ops (Made k y m) =
+-- ---- THE CHANGE, from the cursor p on: a denial is the one that is due by the map, and then nothing happened; else it is made, or the power went under it
+abbrev pub AltersBy : ℕ → Bool → List ℕ → List ℕ → ℕ → ℕ → List ℕ → ℕ → List ℕ → ℕ → List ℕ → List Op → Change → Type 0
+AltersBy B note key value h p c f c′ f′ ix′ ops (Made k y m q) =
     (0 < f′) × Ready B (chipOf c′) k y (take m ix′) × (m ≤ room B) × (denialIn note key (mapOf B (chipOf c)) B ≡ 0)
-    × Trace B (recordOf note key value) (resting (chipOf c) h) (chipOf c′) ops true
-AltersBy B note key value h c f c′ f′ ix′ ops (Denied k) = (k ≡ denialIn note key (mapOf B (chipOf c)) B) × (0 < k) × (f′ ≡ f) × (ops ≡ [])
-AltersBy B note key value h c f c′ f′ ix′ ops Lost =
-    (f′ ≡ 0) × (denialIn note key (mapOf B (chipOf c)) B ≡ 0) × Trace B (recordOf note key value) (resting (chipOf c) h) (chipOf c′) ops false
-AltersBy B note key value h c f c′ f′ ix′ ops Broken = ⊥
+    × Trace B (recordOf note key value) (begin p) (resting (chipOf c) h) (chipOf c′) q ops true
+AltersBy B note key value h p c f c′ f′ ix′ ops (Denied k) = (k ≡ denialIn note key (mapOf B (chipOf c)) B) × (0 < k) × (f′ ≡ f) × (ops ≡ [])
+AltersBy B note key value h p c f c′ f′ ix′ ops Lost =
+    (f′ ≡ 0) × (denialIn note key (mapOf B (chipOf c)) B ≡ 0)
+    × ((q : ℕ) × Trace B (recordOf note key value) (begin p) (resting (chipOf c) h) (chipOf c′) q ops false)
+AltersBy B note key value h p c f c′ f′ ix′ ops Broken = ⊥
 
-pub record Alters (B h y n : ℕ) (note : Bool) (key value noise c : List ℕ) (f : ℕ) (ix c′ : List ℕ) (f′ : ℕ) (ix′ : List ℕ) (r : Change) : Type 0 where
-  pub did : Did (B - 2) (16 * (B - 2) + 1) noise c f c′ f′
-  pub right : 0 < f → Ready B (chipOf c) h y (take n ix) → AltersBy B note key value h c f c′ f′ ix′ (did .ops) r
+pub record Alters (B h y p n : ℕ) (note : Bool) (key value noise c : List ℕ) (f : ℕ) (ix c′ : List ℕ) (f′ : ℕ) (ix′ : List ℕ) (r : Change) : Type 0 where
+  pub did : Did (B - 2) (16 * (B - 2) + 17) noise c f c′ f′
+  pub right : 0 < f → Ready B (chipOf c) h y (take n ix) → AltersBy B note key value h p c f c′ f′ ix′ (did .ops) r

@@ -15,7 +15,7 @@ use Rattle.chip.proofs.Plays.{did-none, did-more, did-length}
 use Rattle.record.specs.Record.{mostValue, Rec, recordOf}
 use Rattle.log.specs.Map.{Map, lookup, alter}
 use Rattle.log.specs.Ring.{chipOf, head, Ring, mapOf, room, mostBlocks, Ready}
-use Rattle.log.specs.Call.{resting, Trace, After}
+use Rattle.log.specs.Call.{resting, begin, Trace, After}
 use Rattle.log.specs.Answers.{missing, printed, refuse, lent, keyed, refused, done, putAnswer, deleteAnswer}
 use Rattle.log.specs.Answers.{Answer as Says}
 use Rattle.log.proofs.RingLaws.{ring-head}
@@ -30,7 +30,7 @@ use Rattle.lent.specs.declared.Answer.{Answer}
 use Rattle.lent.specs.declared.Answer.the-variants.{Done, Refused}
 use Rattle.append.specs.declared.Change.{Change}
 use Rattle.append.specs.declared.Change.the-variants.{Made, Denied, Lost, Broken}
-use Rattle.lent.proofs.Area.{marked, lent-same, lent-before, downed, downed-0, downed-1, downed-2, downed-3, downed-16, back-long, back-index}
+use Rattle.lent.proofs.Area.{marked, lent-same, lent-before, downed, downed-0, downed-1, downed-2, downed-3, downed-4, downed-16, back-long, back-index}
 use Rattle.lent.proofs.Numbers.{lent-due, keyed-only, refuse-due, due-refused}
 use Rattle.change.proofs.Numbers.{keyed-due}
 use Rattle.lent.proofs.Held.{map-rows}
@@ -72,13 +72,14 @@ module _ (c : List ℕ) (big : 4 ≤ blocksOf c) (note : Bool) (key value noise 
     few-after = alter-fits B note key value m (map-sorted B big (chipOf c) h (r .ring)) few-before none-due
 
     -- the bounds of a ready store
-    short : (b : Bool) → Trace B x (resting (chipOf c) h) (chipOf c′) (d .ops) b → (writes (d .ops) ≤ room B + B) × (erases (d .ops) ≤ room B / 15 + 1)
-    short b t =
-        let s = call-short B big x (chipOf c) (chipOf c′) h (d .ops) b t rest in
+    short : (b : Bool) (p q : ℕ) → Trace B x (begin p) (resting (chipOf c) h) (chipOf c′) q (d .ops) b → (writes (d .ops) ≤ room B + B) × (erases (d .ops) ≤ room B / 15 + 1)
+    short b p q t =
+        let s = call-short B big x (begin p) (chipOf c) (chipOf c′) h q (d .ops) b t rest in
         (s .0, omega (arith, s .1))
 
-    at-head : (b : Bool) (l : List Op) → Trace B x (resting (chipOf c) h) (chipOf c′) l b → Trace B x (resting (chipOf c) (head B (chipOf c))) (chipOf c′) l b
-    at-head b l t = subst (λ (k : ℕ). Trace B x (resting (chipOf c) k) (chipOf c′) l b) (sym (ring-head B big (chipOf c) h (r .ring))) t
+    at-head : (b : Bool) (p q : ℕ) (l : List Op) → Trace B x (begin p) (resting (chipOf c) h) (chipOf c′) q l b
+        → Trace B x (begin p) (resting (chipOf c) (head B (chipOf c))) (chipOf c′) q l b
+    at-head b p q l t = subst (λ (k : ℕ). Trace B x (begin p) (resting (chipOf c) k) (chipOf c′) q l b) (sym (ring-head B big (chipOf c) h (r .ring))) t
 
     key-is : (b : Bool) → recordOf b key value .key ≡ key
     key-is true = refl
@@ -88,26 +89,26 @@ module _ (c : List ℕ) (big : 4 ≤ blocksOf c) (note : Bool) (key value noise 
     same-after = ap (λ (k : List ℕ). alter k (x .what) m) (key-is note)
 
     -- it came to its end
-    pub came-whole : Trace B x (resting (chipOf c) h) (chipOf c′) (d .ops) true → Came true x c c′ (d .ops) (alter key (x .what) m)
-    came-whole t =
-        let q = call-map B big x (chipOf c) (chipOf c′) h (d .ops) true (r .ring) t in
+    pub came-whole : (p s : ℕ) → Trace B x (begin p) (resting (chipOf c) h) (chipOf c′) s (d .ops) true → Came true x p s c c′ (d .ops) (alter key (x .what) m)
+    came-whole p s t =
+        let q = call-map B big x (begin p) (chipOf c) (chipOf c′) h s (d .ops) true (r .ring) t in
         let e : mapOf B (chipOf c′) ≡ alter key (x .what) m = q .1 ∙ same-after in
         record {
-          few-erases = short true t .1;
-          few-writes = short true t .0;
-          trace = at-head true (d .ops) t;
+          few-erases = short true p s t .1;
+          few-writes = short true p s t .0;
+          trace = at-head true p s (d .ops) t;
           map = subst (λ (b : ℕ). mapOf b (chipOf c′) ≡ alter key (x .what) m) (same-blocks (did-length d)) e;
           store = a-store (did-length d) (q .0) (omega (arith, few-after, ap length e));
         }
 
     -- the power went under it
-    pub came-cut : Trace B x (resting (chipOf c) h) (chipOf c′) (d .ops) false → Came false x c c′ (d .ops) (alter key (x .what) m)
-    came-cut t =
-        let q = call-map B big x (chipOf c) (chipOf c′) h (d .ops) false (r .ring) t in
+    pub came-cut : (p s : ℕ) → Trace B x (begin p) (resting (chipOf c) h) (chipOf c′) s (d .ops) false → Came false x p s c c′ (d .ops) (alter key (x .what) m)
+    came-cut p s t =
+        let q = call-map B big x (begin p) (chipOf c) (chipOf c′) h s (d .ops) false (r .ring) t in
         record {
-          few-erases = short false t .1;
-          few-writes = short false t .0;
-          trace = at-head false (d .ops) t;
+          few-erases = short false p s t .1;
+          few-writes = short false p s t .0;
+          trace = at-head false p s (d .ops) t;
           map = subst (λ (b : ℕ). After false m (alter key (x .what) m) (mapOf b (chipOf c′))) (same-blocks (did-length d)) (which (q .1));
           store = a-store (did-length d) (q .0) (few-which (which (q .1)));
         }
@@ -140,27 +141,27 @@ module _ (c w : List ℕ) (ok : Checked c w) (note : Bool) (key value noise : Li
   answer-done z = ap (λ (i : ℕ). due i (done (alter key (recordOf note key value .what) (mapIn c)))) (sym z)
 
   module _ (c′ ix′ : List ℕ) (f′ : ℕ) where
-    wider : Did (blocksOf c - 2) (16 * (blocksOf c - 2) + 1) noise c f c′ f′ → Did (blocksOf c) (16 * blocksOf c) noise c f c′ f′
+    wider : Did (blocksOf c - 2) (16 * (blocksOf c - 2) + 17) noise c f c′ f′ → Did (blocksOf c) (16 * blocksOf c) noise c f c′ f′
     wider d = did-more (omega arith) (omega (arith, ok .sized .some-blocks)) d
 
     -- made: the words are put down
-    pub run-made : (h y n h₂ y₂ n₂ : ℕ) → Alters (blocksOf c) (getD w 1 0) (getD w 2 0) (getD w 3 0) note key value noise c f (midOf 16 k w) c′ f′ ix′ (Made h y n)
-        → h₂ ≡ h → y₂ ≡ y → n₂ ≡ n → n ≤ length ix′ → (w′ : List ℕ) → w′ ≡ downed (putMid 16 k w ix′) h₂ y₂ n₂ → Runs note key value noise c f w c′ f′ w′ (Done 0)
+    pub run-made : (h y n p h₂ y₂ n₂ p₂ : ℕ) → Alters (blocksOf c) (getD w 1 0) (getD w 2 0) (getD w 4 0) (getD w 3 0) note key value noise c f (midOf 16 k w) c′ f′ ix′ (Made h y n p)
+        → h₂ ≡ h → y₂ ≡ y → n₂ ≡ n → p₂ ≡ p → n ≤ length ix′ → (w′ : List ℕ) → w′ ≡ downed (putMid 16 k w ix′) h₂ y₂ n₂ p₂ → Runs note key value noise c f w c′ f′ w′ (Done 0)
     unfolding wider did-more
-    run-made h y n h₂ y₂ n₂ a eh ey en m w′ q =
+    run-made h y n p h₂ y₂ n₂ p₂ a eh ey en ep m w′ q =
         record {
           did = wider (a .did);
           refused = tt;
           right = λ kept lit on.
               let r = a .right lit (ready-of kept lit on) in
-              let came = came-whole c (ok .sized .some-blocks) note key value noise f c′ f′ (getD w 1 0) (getD w 2 0) _ (ready-of kept lit on) (r .3) (a .did) (r .4) in
+              let came = came-whole c (ok .sized .some-blocks) note key value noise f c′ f′ (getD w 1 0) (getD w 2 0) _ (ready-of kept lit on) (r .3) (a .did) (getD w 4 0) p (r .4) in
               let b : blocksOf c ≡ blocksOf c′ = same-blocks c (ok .sized .some-blocks) note key value noise f c′ f′ (did-length (a .did)) in
               let v : List ℕ = putMid 16 k w ix′ in
-              let one : getD w′ 1 0 ≡ h = ap (λ (l : List ℕ). getD l 1 0) q ∙ downed-1 v h₂ y₂ n₂ (back-long w ix′ k long) ∙ eh in
-              let two : getD w′ 2 0 ≡ y = ap (λ (l : List ℕ). getD l 2 0) q ∙ downed-2 v h₂ y₂ n₂ (back-long w ix′ k long) ∙ ey in
-              let three : getD w′ 3 0 ≡ n = ap (λ (l : List ℕ). getD l 3 0) q ∙ downed-3 v h₂ y₂ n₂ (back-long w ix′ k long) ∙ en in
+              let one : getD w′ 1 0 ≡ h = ap (λ (l : List ℕ). getD l 1 0) q ∙ downed-1 v h₂ y₂ n₂ p₂ (back-long w ix′ k long) ∙ eh in
+              let two : getD w′ 2 0 ≡ y = ap (λ (l : List ℕ). getD l 2 0) q ∙ downed-2 v h₂ y₂ n₂ p₂ (back-long w ix′ k long) ∙ ey in
+              let three : getD w′ 3 0 ≡ n = ap (λ (l : List ℕ). getD l 3 0) q ∙ downed-3 v h₂ y₂ n₂ p₂ (back-long w ix′ k long) ∙ en in
               let rows : take (getD w′ 3 0) (drop 16 w′) ≡ take n ix′ =
-              ap (λ (i : ℕ). take i (drop 16 w′)) three ∙ ap (λ (l : List ℕ). take n (drop 16 l)) q ∙ ap (take n) (downed-16 v h₂ y₂ n₂) ∙ back-index w ix′ k long n m in
+              ap (λ (i : ℕ). take i (drop 16 w′)) three ∙ ap (λ (l : List ℕ). take n (drop 16 l)) q ∙ ap (take n) (downed-16 v h₂ y₂ n₂ p₂) ∙ back-index w ix′ k long n m in
               let ready : Ready (blocksOf c) (chipOf c′) (getD w′ 1 0) (getD w′ 2 0) (take (getD w′ 3 0) (drop 16 w′)) =
               subst (λ (i : ℕ). Ready (blocksOf c) (chipOf c′) i (getD w′ 2 0) (take (getD w′ 3 0) (drop 16 w′))) (sym one)
               (subst (λ (i : ℕ). Ready (blocksOf c) (chipOf c′) h i (take (getD w′ 3 0) (drop 16 w′))) (sym two)
@@ -171,18 +172,19 @@ module _ (c w : List ℕ) (ok : Checked c w) (note : Bool) (key value noise : Li
                     inl (
                       refl,
                       r .0,
-                      ap (λ (l : List ℕ). getD l 0 0) q ∙ downed-0 v h₂ y₂ n₂ ∙ lent-before 16 k 0 w ix′ (omega arith) long ∙ on,
+                      ap (λ (l : List ℕ). getD l 0 0) q ∙ downed-0 v h₂ y₂ n₂ p₂ ∙ lent-before 16 k 0 w ix′ (omega arith) long ∙ on,
                       record {
                         few = subst (λ (i : ℕ). getD w′ 3 0 ≤ room i) b (omega (arith, three, r .2));
                         ready = subst (λ (i : ℕ). Ready i (chipOf c′) (getD w′ 1 0) (getD w′ 2 0) (take (getD w′ 3 0) (drop 16 w′))) b ready;
                       },
-                      came,
+                      subst (λ (i : ℕ). Came true (recordOf note key value) (getD w 4 0) i c c′ (a .did .ops) (alter key (recordOf note key value .what) (mapIn c)))
+                          (sym (ap (λ (l : List ℕ). getD l 4 0) q ∙ downed-4 v h₂ y₂ n₂ p₂ (back-long w ix′ k long) ∙ ep)) came,
                     );
               });
         }
 
     -- denied: nothing happened
-    pub run-denied : (n : ℕ) → Alters (blocksOf c) (getD w 1 0) (getD w 2 0) (getD w 3 0) note key value noise c f (midOf 16 k w) c′ f′ ix′ (Denied n)
+    pub run-denied : (n : ℕ) → Alters (blocksOf c) (getD w 1 0) (getD w 2 0) (getD w 4 0) (getD w 3 0) note key value noise c f (midOf 16 k w) c′ f′ ix′ (Denied n)
         → c′ ≡ c → f′ ≡ f → ix′ ≡ midOf 16 k w → (w′ : List ℕ) → w′ ≡ putMid 16 k w ix′ → Runs note key value noise c f w c′ f′ w′ (Refused n)
     unfolding wider did-more
     run-denied n a ec ef ei w′ q =
@@ -197,7 +199,7 @@ module _ (c w : List ℕ) (ok : Checked c w) (note : Bool) (key value noise : Li
         }
 
     -- the power went
-    pub run-lost : Alters (blocksOf c) (getD w 1 0) (getD w 2 0) (getD w 3 0) note key value noise c f (midOf 16 k w) c′ f′ ix′ Lost
+    pub run-lost : Alters (blocksOf c) (getD w 1 0) (getD w 2 0) (getD w 4 0) (getD w 3 0) note key value noise c f (midOf 16 k w) c′ f′ ix′ Lost
         → (w′ : List ℕ) → mark w′ ≡ 2 → Runs note key value noise c f w c′ f′ w′ (Refused 7)
     unfolding wider did-more
     run-lost a w′ z =
@@ -213,22 +215,25 @@ module _ (c w : List ℕ) (ok : Checked c w) (note : Bool) (key value noise : Li
                       refl,
                       r .0,
                       z,
-                      came-cut c (ok .sized .some-blocks) note key value noise f c′ f′ (getD w 1 0) (getD w 2 0) _ (ready-of kept lit on) (r .1) (a .did) (r .2),
+                      (
+                        r .2 .0,
+                        came-cut c (ok .sized .some-blocks) note key value noise f c′ f′ (getD w 1 0) (getD w 2 0) _ (ready-of kept lit on) (r .1) (a .did) (getD w 4 0) (r .2 .0) (r .2 .1),
+                      ),
                     );
               });
         }
 
     -- a page that was not blank: never
-    pub run-broken : Alters (blocksOf c) (getD w 1 0) (getD w 2 0) (getD w 3 0) note key value noise c f (midOf 16 k w) c′ f′ ix′ Broken
+    pub run-broken : Alters (blocksOf c) (getD w 1 0) (getD w 2 0) (getD w 4 0) (getD w 3 0) note key value noise c f (midOf 16 k w) c′ f′ ix′ Broken
         → (w′ : List ℕ) → Runs note key value noise c f w c′ f′ w′ (Refused 8)
     run-broken a w′ = record { did = wider (a .did); refused = λ u v. absurd (v refl); right = λ kept lit on. absurd (a .right lit (ready-of kept lit on)) }
 
     -- whichever it was
-    pub run-settled : (ch : Change) → Alters (blocksOf c) (getD w 1 0) (getD w 2 0) (getD w 3 0) note key value noise c f (midOf 16 k w) c′ f′ ix′ ch
+    pub run-settled : (ch : Change) → Alters (blocksOf c) (getD w 1 0) (getD w 2 0) (getD w 4 0) (getD w 3 0) note key value noise c f (midOf 16 k w) c′ f′ ix′ ch
         → ChangeWithin (blocksOf c) (getD w 3 0) ch → ChangeKept c f (midOf 16 k w) c′ f′ ix′ ch → getD w 3 0 + 1 ≤ length ix′
         → (w′ : List ℕ) (r : Answer) → Settles (putMid 16 k w ix′) w′ ch r → Runs note key value noise c f w c′ f′ w′ r
-    run-settled (Made h y n) a v u m w′ r s =
-        subst (Runs note key value noise c f w c′ f′ w′) (sym (s .says .0)) (run-made h y n h y n a refl refl refl (omega (arith, v .2)) w′ (s .says .1))
+    run-settled (Made h y n p) a v u m w′ r s =
+        subst (Runs note key value noise c f w c′ f′ w′) (sym (s .says .0)) (run-made h y n p h y n p a refl refl refl refl (omega (arith, v .2)) w′ (s .says .1))
     run-settled (Denied n) a v u m w′ r s =
         subst (Runs note key value noise c f w c′ f′ w′) (sym (s .says .0)) (run-denied n a (u .says .0) (u .says .1) (u .says .2) w′ (s .says .1))
     run-settled Lost a v u m w′ r s =
@@ -237,10 +242,16 @@ module _ (c w : List ℕ) (ok : Checked c w) (note : Bool) (key value noise : Li
     run-settled Broken a v u m w′ r s = subst (Runs note key value noise c f w c′ f′ w′) (sym (s .says .0)) (run-broken a w′)
 
 -- what `settle` leaves, by what the change was
-pub settles-made : (v w′ : List ℕ) (ch : Change) (h y n h₂ y₂ n₂ : ℕ) → ch ≡ Made h y n → w′ ≡ downed v h₂ y₂ n₂ → h₂ ≡ h → y₂ ≡ y → n₂ ≡ n → Settles v w′ ch (Done 0)
-settles-made v w′ ch h y n h₂ y₂ n₂ e q eh ey en =
+pub settles-made : (v w′ : List ℕ) (ch : Change) (h y n p h₂ y₂ n₂ p₂ : ℕ) → ch ≡ Made h y n p → w′ ≡ downed v h₂ y₂ n₂ p₂ → h₂ ≡ h → y₂ ≡ y → n₂ ≡ n → p₂ ≡ p
+    → Settles v w′ ch (Done 0)
+settles-made v w′ ch h y n p h₂ y₂ n₂ p₂ e q eh ey en ep =
     subst (λ (x : Change). Settles v w′ x (Done 0)) (sym e)
-    (record { says = (refl, q ∙ ap (λ (i : ℕ). downed v i y₂ n₂) eh ∙ ap (λ (i : ℕ). downed v h i n₂) ey ∙ ap (downed v h y) en) })
+    (record {
+      says = (
+        refl,
+        q ∙ ap (λ (i : ℕ). downed v i y₂ n₂ p₂) eh ∙ ap (λ (i : ℕ). downed v h i n₂ p₂) ey ∙ ap (λ (i : ℕ). downed v h y i p₂) en ∙ ap (downed v h y n) ep,
+      );
+    })
 
 pub settles-denied : (v : List ℕ) (ch : Change) (k : ℕ) → ch ≡ Denied k → Settles v v ch (Refused k)
 settles-denied v ch k e = subst (λ (x : Change). Settles v v x (Refused k)) (sym e) (record { says = (refl, refl) })
@@ -253,17 +264,18 @@ settles-broken v ch e = subst (λ (x : Change). Settles v v x (Refused 8)) (sym 
 
 -- the numbers of a change are words
 pub words-of : (B n : ℕ) (ch : Change) → B ≤ mostBlocks → n ≤ room B → ChangeWithin B n ch → Words ch
-words-of B n (Made h x m) b l v = (omega (arith, v .0), omega (arith, v .1), omega (arith, v .2))
+words-of B n (Made h x m p) b l v = (omega (arith, v .0), omega (arith, v .1), omega (arith, v .2), v .3)
 words-of B n (Denied k) b l v = tt
 words-of B n Lost b l v = tt
 words-of B n Broken b l v = tt
 
 -- the words by other names
-pub alters-at : (B h h₂ y y₂ n n₂ : ℕ) (note : Bool) (key value noise c : List ℕ) (f : ℕ) (ix c′ : List ℕ) (f′ : ℕ) (ix′ : List ℕ) (r : Change) → h ≡ h₂ → y ≡ y₂ → n ≡ n₂
-    → Alters B h y n note key value noise c f ix c′ f′ ix′ r → Alters B h₂ y₂ n₂ note key value noise c f ix c′ f′ ix′ r
-alters-at B h h₂ y y₂ n n₂ note key value noise c f ix c′ f′ ix′ r eh ey en a =
-    subst (λ (i : ℕ). Alters B i y₂ n₂ note key value noise c f ix c′ f′ ix′ r) eh
-    (subst (λ (i : ℕ). Alters B h i n₂ note key value noise c f ix c′ f′ ix′ r) ey (subst (λ (i : ℕ). Alters B h y i note key value noise c f ix c′ f′ ix′ r) en a))
+pub alters-at : (B h h₂ y y₂ p p₂ n n₂ : ℕ) (note : Bool) (key value noise c : List ℕ) (f : ℕ) (ix c′ : List ℕ) (f′ : ℕ) (ix′ : List ℕ) (r : Change) → h ≡ h₂ → y ≡ y₂ → p ≡ p₂
+    → n ≡ n₂ → Alters B h y p n note key value noise c f ix c′ f′ ix′ r → Alters B h₂ y₂ p₂ n₂ note key value noise c f ix c′ f′ ix′ r
+alters-at B h h₂ y y₂ p p₂ n n₂ note key value noise c f ix c′ f′ ix′ r eh ey ep en a =
+    subst (λ (i : ℕ). Alters B i y₂ p₂ n₂ note key value noise c f ix c′ f′ ix′ r) eh
+    (subst (λ (i : ℕ). Alters B h i p₂ n₂ note key value noise c f ix c′ f′ ix′ r) ey
+    (subst (λ (i : ℕ). Alters B h y i n₂ note key value noise c f ix c′ f′ ix′ r) ep (subst (λ (i : ℕ). Alters B h y p i note key value noise c f ix c′ f′ ix′ r) en a)))
 
 -- ---- THE CALLS
 module _ (c : List ℕ) (f : ℕ) (w key : List ℕ) where

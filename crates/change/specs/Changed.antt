@@ -9,10 +9,10 @@ use Rattle.chip.specs.Play.{Op, Did, erases, writes}
 use Rattle.record.specs.Record.{Rec, recordOf}
 use Rattle.log.specs.Answers.{refused, done, putAnswer, deleteAnswer}
 use Rattle.log.specs.Answers.{Answer as Says}
-use Rattle.log.specs.Call.{resting, Trace, After}
+use Rattle.log.specs.Call.{resting, begin, Trace, After}
 use Rattle.log.specs.Map.{Map}
 use Rattle.log.specs.Ring.{chipOf, head, room}
-use Rattle.lent.specs.Area.{blocksOf, mapIn, mark, lentOf, Holds, Kept, Store}
+use Rattle.lent.specs.Area.{blocksOf, mapIn, mark, passed, lentOf, Holds, Kept, Store}
 use Rattle.lent.specs.declared.Answer.{Answer}
 use Rattle.lent.specs.declared.Answer.the-variants.{Done, Refused}
 
@@ -23,11 +23,12 @@ RefusedKept c f w c′ f′ w′ (Done n) = Unit {0}
 RefusedKept c f w c′ f′ w′ (Refused k) = k ≢ 7 → k ≢ 8 → (c′ ≡ c) × (f′ ≡ f) × (w′ ≡ w)
 
 -- what came of it: it came to its end (b is true) or was cut short. At most 8 (B - 2) / 15 + 1 erases and 8 (B - 2) + B writes, and they are the steps of a
--- call; the map is the one after, m, or where it was cut short the one before or the one after; start will succeed on the chip
-pub record Came (b : Bool) (x : Rec) (c c′ : List ℕ) (ops : List Op) (m : Map (List ℕ)) : Type 0 where
+-- call, by which the cursor of cleaning came from p to q; the map is the one after, m, or where it was cut short the one before or the one after; start will
+-- succeed on the chip
+pub record Came (b : Bool) (x : Rec) (p q : ℕ) (c c′ : List ℕ) (ops : List Op) (m : Map (List ℕ)) : Type 0 where
   pub few-erases : erases ops ≤ room (blocksOf c) / 15 + 1
   pub few-writes : writes ops ≤ room (blocksOf c) + blocksOf c
-  pub trace : Trace (blocksOf c) x (resting (chipOf c) (head (blocksOf c) (chipOf c))) (chipOf c′) ops b
+  pub trace : Trace (blocksOf c) x (begin p) (resting (chipOf c) (head (blocksOf c) (chipOf c))) (chipOf c′) q ops b
   pub map : After b (mapIn c) m (mapIn c′)
   pub store : Store c′
 
@@ -35,7 +36,8 @@ pub record Came (b : Bool) (x : Rec) (c c′ : List ℕ) (ops : List Op) (m : Ma
 abbrev pub ChangesBy : Rec → List ℕ → ℕ → List ℕ → List ℕ → ℕ → List ℕ → List Op → Says (Map (List ℕ)) → Answer → Type 0
 ChangesBy x c f w c′ f′ w′ ops (refused k) r = (r ≡ Refused k) × (c′ ≡ c) × (w′ ≡ w) × (f′ ≡ f) × (ops ≡ [])
 ChangesBy x c f w c′ f′ w′ ops (done m) r =
-    ((r ≡ Done 0) × (0 < f′) × (mark w′ ≡ 1) × Holds c′ w′ × Came true x c c′ ops m) ⊎ ((r ≡ Refused 7) × (f′ ≡ 0) × (mark w′ ≡ 2) × Came false x c c′ ops m)
+    ((r ≡ Done 0) × (0 < f′) × (mark w′ ≡ 1) × Holds c′ w′ × Came true x (passed w) (passed w′) c c′ ops m)
+    ⊎ ((r ≡ Refused 7) × (f′ ≡ 0) × (mark w′ ≡ 2) × ((q : ℕ) × Came false x (passed w) q c c′ ops m))
 
 pub record Changes (x : Rec) (c : List ℕ) (f : ℕ) (w c′ : List ℕ) (f′ : ℕ) (w′ : List ℕ) (ops : List Op) (s : Says (Map (List ℕ))) (r : Answer) : Type 0 where
   pub ends : ChangesBy x c f w c′ f′ w′ ops s r

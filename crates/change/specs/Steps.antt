@@ -24,14 +24,14 @@ putNumber key value = keyNumber key (number 1 (not (printed key)) (number 2 (leb
 
 -- the numbers of a change that was made are words of the area
 abbrev pub Words : Change → Type 0
-Words (Made h x n) = (h < 4294967296) × (x < 4294967296) × (n < 4294967296)
+Words (Made h x n p) = (h < 4294967296) × (x < 4294967296) × (n < 4294967296) × (p < 4294967296)
 Words (Denied k) = Unit {0}
 Words Lost = Unit {0}
 Words Broken = Unit {0}
 
 -- what is left in the area, and answered, after a change
 abbrev pub SettlesBy : List ℕ → List ℕ → Change → Answer → Type 0
-SettlesBy w w′ (Made h x n) r = (r ≡ Done 0) × (w′ ≡ set (set (set w 1 h) 2 x) 3 n)
+SettlesBy w w′ (Made h x n p) r = (r ≡ Done 0) × (w′ ≡ set (set (set (set w 1 h) 2 x) 3 n) 4 p)
 SettlesBy w w′ (Denied k) r = (r ≡ Refused k) × (w′ ≡ w)
 SettlesBy w w′ Lost r = (r ≡ Refused 7) × (w′ ≡ set w 0 2)
 SettlesBy w w′ Broken r = (r ≡ Refused 8) × (w′ ≡ w)

@@ -16,8 +16,8 @@ fn settle(work: &mut [u32], change: Change) -> Answer
     ensures { λ r. ⌜ Settles (now (work .entry)) (now (work .exit)) change r ⌝ }
 {
     match change {
-        Change::Made(h, next, n) => {
-            lent::note_down(work, h as u32, next as u32, n as u32);
+        Change::Made(h, next, n, passed) => {
+            lent::note_down(work, h as u32, next as u32, n as u32, passed as u32);
             Answer::Done(0)
         }
         Change::Denied(k) => Answer::Refused(k),
@@ -46,12 +46,14 @@ fn run_change(
     let h = index::word(work[1]);
     let next = index::word(work[2]);
     let n = index::word(work[3]);
+    let passed = index::word(work[4]);
     let change = append::make_change(
         chip,
         &mut work[16..],
         b,
         h,
         next,
+        passed,
         n,
         note,
         key,

@@ -1,4 +1,4 @@
--- Whether a page of the oldest block holds a live value: the code asks the index, the theory the rows. Assumes nothing.
+-- Whether a page of the ring holds a live value: the code asks the index, the theory the rows. Assumes nothing.
 use mathlib.Core.Path.{_≡_, refl, sym, ap, _∙_, subst}
 use mathlib.Core.Logic.{_≢_, ite}
 use mathlib.Core.Bool.{true, false, not, true≢false}
@@ -17,15 +17,14 @@ use Rattle.record.proofs.Reading.{some≢none, some-inj, says-key}
 use Rattle.log.specs.Key.{Key, key≟}
 use Rattle.log.specs.Map.{Map, lookup}
 use Rattle.log.specs.Log.{Placed, pageOf, oldest, run, pages}
-use Rattle.log.specs.Ring.{Chip, chipOf, sealed}
+use Rattle.log.specs.Ring.{chipOf, sealed, Ring}
 use Rattle.log.specs.Opening.{none-there}
 use Rattle.log.proofs.Window.{page-block}
 use Rattle.log.proofs.RingLaws.{round-first}
 use Rattle.log.proofs.LogLaws.{Stands}
 use Rattle.log.proofs.Clean.{run-sorted, run-stands}
 use Rattle.log.proofs.Place.{found-lookup, absent-lookup}
-use Rattle.log.proofs.Index.{pages-length, pages-at}
-use Rattle.log.proofs.Opening.{same-row}
+use Rattle.log.proofs.Index.{pages-length, pages-at, same-place}
 use Rattle.index.specs.Index.{keysOf, Ordered}
 use Rattle.index.specs.Answers.{Finds}
 use Rattle.index.specs.declared.Found.{Found}
@@ -33,18 +32,18 @@ use Rattle.index.specs.declared.Found.the-variants.{At, Missing}
 use Rattle.index.proofs.Rows.{rows-ordered, nth, length-rows, before, behind}
 use Rattle.clean.specs.declared.Live.the-variants.{Yes, No}
 use Rattle.clean.specs.Ends.{elsewhere, unlisted, unlistedRun}
-use Rattle.clean.specs.Steps.{Midway, LiveAt, Dead, Judges}
+use Rattle.clean.specs.Steps.{LiveAt, Dead, Judges}
 
 -- the search for the key on page q, whatever else that page says
 module _ (c ix : List ℕ) (n q : ℕ) (k : Key) (own : k ≡ keyAt c q) (f : Found) (finds : Ordered c (take n ix) → Finds (keysOf c (take n ix)) k f) where
-  -- q is place t of the oldest block
-  module _ (B h t s : ℕ) (c₀ : Chip) (big : 4 ≤ B) (size : length c ≡ 4096 * B) (low : oldest B (h + B) ≤ t) (l : t < oldest B (h + B) + 15) (at : q ≡ pageOf B t)
-      (m : Midway B c ix n h c₀ t s) where
+  -- q is place t
+  module _ (B h t s : ℕ) (big : 4 ≤ B) (size : length c ≡ 4096 * B) (low : oldest B (h + B) ≤ t) (l : t < oldest B (h + B) + 15 * B) (top : s ≤ oldest B (h + B) + 15 * B)
+      (at : q ≡ pageOf B t) (m : take n ix ≡ pages B (run B (recAt c) (h + B) s)) where
     abbrev rows : Map Placed
     rows = run B (recAt c) (h + B) s
 
     found : Finds (keysOf c (pages B rows)) k f
-    found = subst (λ (p : List ℕ). Finds (keysOf c p) k f) (m .rows) (finds (subst (Ordered c) (sym (m .rows)) (rows-ordered B big c size (h + B) s)))
+    found = subst (λ (p : List ℕ). Finds (keysOf c p) k f) m (finds (subst (Ordered c) (sym m) (rows-ordered B big c size (h + B) s)))
 
     -- the row of a record on this page is that of the key
     own-row : (r : Rec) (a : Placed) → recAt c (pageOf B t) ≡ some r → lookup (r .key) rows ≡ some a → lookup k rows ≡ some a
@@ -77,13 +76,13 @@ module _ (c ix : List ℕ) (n q : ℕ) (k : Key) (own : k ≡ keyAt c q) (f : Fo
       row = found-lookup none-there k rows j (run-sorted B (recAt c) (h + B) s) inside key
 
       page : getD ix j 0 ≡ pageOf B (its .0)
-      page = sym (getD-take n ix j 0 b) ∙ ap (λ (p : List ℕ). getD p j 0) (m .rows) ∙ pages-at B none-there rows j inside
+      page = sym (getD-take n ix j 0 b) ∙ ap (λ (p : List ℕ). getD p j 0) m ∙ pages-at B none-there rows j inside
 
       -- on this very page: the row says what stands there
       live-here : getD ix j 0 ≡ q → LiveAt B c h t s j
       live-here d =
           let w : Stands B (recAt c) (oldest B (h + B)) (s - oldest B (h + B)) k its = run-stands B (recAt c) (h + B) s k its row in
-          let z : its .0 ≡ t = same-row B big h c₀ (chipOf c) t s k its low l (m .opening) row (sym page ∙ d ∙ at) in
+          let z : its .0 ≡ t = same-place B (oldest B (h + B)) (its .0) t (w .from) (omega (arith, w .below)) low l (sym page ∙ d ∙ at) in
           record {
             rec = w .rec;
             row = its;
@@ -101,14 +100,14 @@ module _ (c ix : List ℕ) (n q : ℕ) (k : Key) (own : k ≡ keyAt c q) (f : Fo
 
   -- ---- WHAT THE CODE ANSWERS of page q
   pub judge-missing : (i : ℕ) → f ≡ Missing i → Judges c ix n q No
-  judge-missing i e = record { one = λ B h t s c₀ big size low l at m. dead-missing B h t s c₀ big size low l at m i e }
+  judge-missing i e = record { one = λ B h t s big size low l top at m. dead-missing B h t s big size low l top at m i e }
 
   module _ (j : ℕ) (e : f ≡ At j) (b : j < n) where
     pub judge-here : getD ix j 0 ≡ q → Judges c ix n q (Yes j)
-    judge-here d = record { one = λ B h t s c₀ big size low l at m. live-here B h t s c₀ big size low l at m j e b d }
+    judge-here d = record { one = λ B h t s big size low l top at m. live-here B h t s big size low l top at m j e b d }
 
     pub judge-elsewhere : getD ix j 0 ≢ q → Judges c ix n q No
-    judge-elsewhere d = record { one = λ B h t s c₀ big size low l at m. dead-elsewhere B h t s c₀ big size low l at m j e b d }
+    judge-elsewhere d = record { one = λ B h t s big size low l top at m. dead-elsewhere B h t s big size low l top at m j e b d }
 
 -- ---- A BLOCK WITHOUT ENTRIES
 
@@ -150,24 +149,22 @@ module _ (c ix : List ℕ) (n q x : ℕ) (u : unlisted x ix n ≡ true) (b : q /
   unfolding unlisted
   judge-unlisted =
       record {
-        one = λ B h t s c₀ big size low l at m r a says live stands.
+        one = λ B h t s big size low l top at m r a says live stands.
             let w = listed B (r .key) a (run B (recAt c) (h + B) s) live in
-            let less : w .0 < n = omega (arith, w .1, pages-length B (run B (recAt c) (h + B) s), ap length (m .rows), length-take n ix) in
+            let less : w .0 < n = omega (arith, w .1, pages-length B (run B (recAt c) (h + B) s), ap length m, length-take n ix) in
             let e : getD ix (w .0) 0 / 16 ≡ x =
             ap (λ (p : ℕ). p / 16)
-            (sym (getD-take n ix (w .0) 0 less) ∙ ap (λ (p : List ℕ). getD p (w .0) 0) (m .rows) ∙ w .2 ∙ ap (pageOf B) stands ∙ sym at) ∙ b in
+            (sym (getD-take n ix (w .0) 0 less) ∙ ap (λ (p : List ℕ). getD p (w .0) 0) m ∙ w .2 ∙ ap (pageOf B) stands ∙ sym at) ∙ b in
             true≢false (sym (all-at (λ j. elsewhere x (getD ix j 0)) n (w .0) less u) ∙ ap not (eq-eqb _ _ e));
       }
 
 -- ---- A BLOCK THAT ISN'T SEALED: in the first round no page of it was written yet
-module _ (c ix : List ℕ) (n q : ℕ) (u : sealed (chipOf c) (q / 16) ≡ false) where
-  pub judge-unused : Judges c ix n q No
-  judge-unused =
-      record {
-        one = λ B h t s c₀ big size low l at m r a says live stands.
-            let z : t / 15 ≡ h + 2 = omega arith in
-            let b : q / 16 ≡ (h + 2) % B = ap (λ (p : ℕ). p / 16) at ∙ page-block B t ∙ ap (λ (x : ℕ). x % B) z in
-            let f = round-first B big (chipOf c) h (m .opening .ring) (ap (sealed (chipOf c)) (sym b) ∙ u) in
-            let w : (h + 2) % B ≡ h + 2 = mod-eq-of-lt (f .0) in
-            some≢none (sym says ∙ ap (recAt c) (sym at) ∙ chipOf c .honest q (f .1 .above q (omega (arith, b, w)) (omega (arith, b, w, f .0))));
-      }
+pub dead-unused : (B : ℕ) → 4 ≤ B → (c : List ℕ) (h i s : ℕ) → i < 15 → Ring B (chipOf c) h → sealed (chipOf c) ((h + 2) % B) ≡ false
+    → Dead B c h (oldest B (h + B) + i) s
+dead-unused B big c h i s l ring u r a says live stands =
+    let t : ℕ = oldest B (h + B) + i in
+    let z : t / 15 ≡ h + 2 = omega arith in
+    let b : pageOf B t / 16 ≡ (h + 2) % B = page-block B t ∙ ap (λ (x : ℕ). x % B) z in
+    let f = round-first B big (chipOf c) h ring u in
+    let w : (h + 2) % B ≡ h + 2 = mod-eq-of-lt (f .0) in
+    some≢none (sym says ∙ chipOf c .honest (pageOf B t) (f .1 .above (pageOf B t) (omega (arith, b, w)) (omega (arith, b, w, f .0))))

@@ -1,3 +1,4 @@
 pub mod Runs
 pub mod Judge
+pub mod Carries
 pub mod Turns

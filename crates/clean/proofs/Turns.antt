@@ -2,19 +2,16 @@
 use mathlib.Core.Path.{_≡_, refl, sym, ap, _∙_, subst}
 use mathlib.Core.List.{List, [], _∷_, _++_}
 use mathlib.Core.Option.{some}
-use mathlib.Core.Bool.{true, false, not, true≢false}
-use Prim.Native.Nat.{ℕ, zero, suc, _+_, _-_, _*_, _/_, _%_, _≤_, _<_}
+use mathlib.Core.Bool.{true, false, true≢false}
+use Prim.Native.Nat.{ℕ, zero, suc, _+_, _*_, _%_, _≤_, _<_}
 use native.Mathlib.Numerals.{add-one}
 use native.Mathlib.Omega.{arith}
 use lib.ListN.{length, take, set}
 use lib.Seq.{take-set-lt}
-use Rattle.page.specs.Page.{Bytes}
-use Rattle.chip.specs.Chip.{power, pageAt, blankAt, written}
-use Rattle.chip.specs.Play.{Op, write, Writable, Did}
-use Rattle.chip.proofs.Power.{write-stayed, write-went}
-use Rattle.chip.proofs.Plays.{did-none, did-meant, did-more, did-then}
+use Rattle.chip.specs.Chip.{pageAt}
+use Rattle.chip.specs.Play.{Op, write}
+use Rattle.chip.proofs.Plays.{did-none, did-more, did-then}
 use Rattle.record.specs.Record.{Rec, recOf, recAt, anew}
-use Rattle.record.proofs.Copy.{anew-length, anew-bytes, anew-says}
 use Rattle.log.specs.Log.{pageOf, oldest, run, pages}
 use Rattle.log.specs.Ring.{Chip, chipOf, sealed, spare}
 use Rattle.log.specs.Call.{copying, Wrote, CutWrote, Leads, Cut}
@@ -24,14 +21,14 @@ use Rattle.log.proofs.Steps.{spare-page}
 use Rattle.log.proofs.Opening.{copy-blank}
 use Rattle.log.proofs.Crash.{skip-done, written-at, live-what, copy-done}
 use Rattle.log.proofs.IndexSteps.{copy-replaces}
-use Rattle.log.proofs.Bytes.{wrote-copy, cut-copy}
 use Rattle.log.proofs.Walk.{leads-none, leads-then, leads-cut, leads-skip, leads-copy, cut-copied}
+use Rattle.clean.specs.declared.Live.{Live}
 use Rattle.clean.specs.declared.Live.the-variants.{Yes, No}
 use Rattle.clean.specs.declared.Turn.{Turn}
 use Rattle.clean.specs.declared.Turn.the-variants.{On, Dark, Dirty}
 use Rattle.clean.specs.Ends.{unlisted}
-use Rattle.clean.specs.Steps.{Midway, midway, Judges, TurnsBy, Turns, Carries}
-use Rattle.clean.proofs.Judge.{judge-unlisted, judge-unused}
+use Rattle.clean.specs.Steps.{Midway, midway, LiveAt, Dead, JudgesBy, Judges, TurnsBy, Turns, Carried, Broken, CarriesBy, Carries}
+use Rattle.clean.proofs.Judge.{judge-unlisted, dead-unused}
 
 -- place i of the oldest block lies on its page i
 pub oldest-page : (B h i : ℕ) → i < 15 → pageOf B (oldest B (h + B) + i) ≡ 16 * ((h + 2) % B) + i
@@ -42,127 +39,113 @@ oldest-page B h i l =
 pub fresh-page : (B h k : ℕ) → 4 ≤ B → k < 15 → pageOf B (fresh B h + k) ≡ 16 * spare B h + k
 fresh-page B h k big l = ap (λ (x : ℕ). pageOf B (x + k)) {x = fresh B h} {y = 15 * (h + B + 1)} (omega arith) ∙ spare-page B big h k l
 
--- ---- A COPY
-module _ (B : ℕ) (big : 4 ≤ B) (pg noise c ix : List ℕ) (f n h k j p : ℕ) (e : p ≡ 16 * spare B h + k) where
-  -- the spare would be full: it never is, since there is a copy for a place at most
-  pub carry-full : 15 ≤ k → Carries B n h k j pg noise c f ix c f ix Dirty
-  carry-full l =
-      record { did = did-more (omega arith) (omega arith) (did-none c f); right = λ c₀ i lit b s m a. omega (arith, m .opening .fewer) }
+-- ---- A PLACE: place i of the oldest block is looked at, and k places of the spare are used
+module _ (B : ℕ) (big : 4 ≤ B) (noise c ix : List ℕ) (size : length c ≡ 4096 * B) (f n h i k : ℕ) (l : i < 15) where
+  -- by their numbers
+  abbrev t : ℕ
+  t = oldest B (h + B) + i
 
-  module _ (b : k < 15) where
-    here : p ≡ pageOf B (fresh B h + k)
-    here = e ∙ sym (fresh-page B h k big b)
-
-    -- its page would not be blank
-    pub carry-dirty : blankAt c p ≡ false → Carries B n h k j pg noise c f ix c f ix Dirty
-    carry-dirty d =
-        record {
-          did = did-more (omega arith) (omega arith) (did-none c f);
-          right = λ c₀ i lit l s m a.
-              true≢false
-              (sym (ap not d)
-              ∙ ap (λ (x : ℕ). not (blankAt c x)) here
-              ∙ copy-blank B big h c₀ (chipOf c) (oldest B (h + B) + i) (fresh B h + k) (omega arith) (m .opening));
-        }
-
-    module _ (c′ new : List ℕ) (f′ : ℕ) (i : 256 * p + 256 ≤ length c) (z : blankAt c p ≡ true) (g : f′ ≡ f - 1) (y : length pg ≡ 256) (s : Bytes pg)
-        (u : new ≡ anew pg) (w : c′ ≡ written (power f) noise p new c) where
-      fit : Writable p (anew pg) c
-      fit = record { inside = i; blank = z; size = anew-length pg y s; bytes = anew-bytes pg y s }
-
-      did : Did 0 1 noise c f c′ f′
-      did = did-meant p (anew pg) new c c′ f f′ fit u w g
-
-      -- the copy says what the page said that was read
-      same : (x : ℕ) (r : Rec) → pg ≡ pageAt c x → recAt c x ≡ some r → recOf (anew pg) ≡ some r
-      unfolding recAt
-      same x r at says = anew-says pg y s ∙ ap recOf at ∙ says
-
-      -- the power went
-      pub carry-dark : f′ ≡ 0 → Carries B n h k j pg noise c f ix c′ f′ ix Dark
-      unfolding did did-meant
-      carry-dark gone =
-          record {
-            did = did;
-            right = λ c₀ x lit l at m a.
-                let t : ℕ = oldest B (h + B) + x in
-                let v : CutWrote p (some (a .rec)) (chipOf c) (chipOf c′) =
-                subst (λ (d : List ℕ). CutWrote p (some (a .rec)) (chipOf c) (chipOf d)) (sym (write-went noise c c′ f f′ g p (anew pg) new u w lit gone))
-                (cut-copy noise p c (anew pg) (a .rec) (same (pageOf B t) (a .rec) at (a .says)) fit) in (
-                  gone,
-                  subst (λ (d : ℕ). Cut B (midway B c h c₀ x k) (chipOf c′) (write d (anew pg) ∷ [])) (sym here)
-                      (cut-copied B h c₀ (chipOf c) t (fresh B h + k) (omega arith) (chipOf c′) (a .rec) (a .row) (anew pg) (a .says) (a .live) (a .stands)
-                      (subst (λ (d : ℕ). CutWrote d (some (a .rec)) (chipOf c) (chipOf c′)) here v)),
-                );
-          }
-
-      -- it stayed: the entry is that of the copy
-      pub carry-on : 0 < f′ → j < n → (ix′ : List ℕ) → ix′ ≡ set ix j p → Carries B n h k j pg noise c f ix c′ f′ ix′ (On (k + 1))
-      unfolding did did-meant
-      carry-on on low ix′ put =
-          record {
-            did = did;
-            right = λ c₀ x lit l at m a.
-                let t : ℕ = oldest B (h + B) + x in
-                let r : ℕ = fresh B h + k in
-                let o : Wrote p (some (a .rec)) (chipOf c) (chipOf c′) =
-                subst (λ (d : List ℕ). Wrote p (some (a .rec)) (chipOf c) (chipOf d)) (sym (write-stayed noise c c′ f f′ g p (anew pg) new u w on))
-                (wrote-copy noise p c (anew pg) (a .rec) (same (pageOf B t) (a .rec) at (a .says)) fit) in
-                let v : Wrote (pageOf B r) (some (a .rec)) (chipOf c) (chipOf c′) = subst (λ (d : ℕ). Wrote d (some (a .rec)) (chipOf c) (chipOf c′)) here o in
-                let t1 : suc t ≡ oldest B (h + B) + (x + 1) = omega arith in
-                let r1 : suc r ≡ fresh B h + (k + 1) = omega arith in
-                let mid : Midway B c′ ix′ n h c₀ (suc t) (suc r) =
-                record {
-                  opening = copy-done B big (chipOf c) (chipOf c′) h c₀ t r (a .rec) (a .row) (omega arith) (omega arith) (a .says) (a .live) (a .stands) (m .opening) v;
-                  rows =
-                      ap (take n) put ∙ take-set-lt n ix j p low ∙ ap (λ (d : List ℕ). set d j p) (m .rows)
-                      ∙ ap (set (pages B (run B (recAt c) (h + B) r)) j) here
-                      ∙ sym
-                      (copy-replaces B big h c₀ (chipOf c) (chipOf c′) t r (a .rec) (a .row) (omega arith) (omega arith) (a .says) (a .live) (a .stands) (m .opening)
-                      (live-what B big (chipOf c) (chipOf c′) h c₀ t r (a .rec) (a .row) (omega arith) (omega arith) (a .says) (a .live) (a .stands) (m .opening))
-                      (written-at B r (a .rec) (chipOf c) (chipOf c′) v) none-there j (a .inside) (a .entry));
-                } in
-                let run : Leads B (copying h c₀ (chipOf c) t r) (copying h c₀ (chipOf c′) (suc t) (suc r)) (write (pageOf B r) (anew pg) ∷ []) =
-                leads-copy B h c₀ (chipOf c) t r (omega arith) (chipOf c′) (a .rec) (a .row) (anew pg) (a .says) (a .live) (a .stands) v in (
-                  on,
-                  subst (λ (d : ℕ). Midway B c′ ix′ n h c₀ d (fresh B h + (k + 1))) t1 (subst (λ (d : ℕ). Midway B c′ ix′ n h c₀ (suc t) d) r1 mid),
-                  subst (λ (d : ℕ). Leads B (midway B c h c₀ x k) (midway B c′ h c₀ (x + 1) (k + 1)) (write d (anew pg) ∷ [])) (sym here)
-                      (subst (λ (d : ℕ). Leads B (copying h c₀ (chipOf c) t r) (copying h c₀ (chipOf c′) d (fresh B h + (k + 1))) (write (pageOf B r) (anew pg) ∷ [])) t1
-                      (subst (λ (d : ℕ). Leads B (copying h c₀ (chipOf c) t r) (copying h c₀ (chipOf c′) (suc t) d) (write (pageOf B r) (anew pg) ∷ [])) r1 run)),
-                );
-          }
-
--- ---- A PLACE
-module _ (B : ℕ) (big : 4 ≤ B) (noise c ix : List ℕ) (size : length c ≡ 4096 * B) (f n h i k q : ℕ) (l : i < 15) (e : q ≡ 16 * ((h + 2) % B) + i) where
-  at : q ≡ pageOf B (oldest B (h + B) + i)
-  at = e ∙ sym (oldest-page B h i l)
+  abbrev s : ℕ
+  s = fresh B h + k
 
   -- it has no live value
-  pub look-on : Judges c ix n q No → Turns B n h i 1 k noise c f ix c f ix (On k)
+  pub look-dead : ((c₀ : Chip) → Midway B c ix n h c₀ t s → Dead B c h t s) → Turns B n h i 1 k noise c f ix c f ix (On k)
   unfolding did-more did-none
-  look-on d =
+  look-dead dead =
       record {
         did = did-more (omega arith) (omega arith) (did-none c f);
         right = λ c₀ lit m.
-            let t : ℕ = oldest B (h + B) + i in
             let t1 : suc t ≡ oldest B (h + B) + (i + 1) = omega arith in
-            let none-live = d .one B h t (fresh B h + k) c₀ big size (omega arith) (omega arith) at m in
-            let o : Opening B h c₀ (chipOf c) (suc t) (fresh B h + k) = skip-done B big (chipOf c) (chipOf c) h c₀ t (fresh B h + k) (omega arith) none-live (m .opening) in (
+            let o : Opening B h c₀ (chipOf c) (suc t) s = skip-done B big (chipOf c) (chipOf c) h c₀ t s (omega arith) (dead c₀ m) (m .opening) in (
               lit,
-              record { opening = subst (λ (y : ℕ). Opening B h c₀ (chipOf c) y (fresh B h + k)) t1 o; rows = m .rows },
-              subst (λ (y : ℕ). Leads B (midway B c h c₀ i k) (copying h c₀ (chipOf c) y (fresh B h + k)) []) t1
-                  (leads-skip B h c₀ (chipOf c) t (fresh B h + k) (omega arith) none-live),
+              record { opening = subst (λ (y : ℕ). Opening B h c₀ (chipOf c) y s) t1 o; rows = m .rows },
+              subst (λ (y : ℕ). Leads B (midway B c h c₀ i k) (copying h c₀ (chipOf c) y s) []) t1 (leads-skip B h c₀ (chipOf c) t s (omega arith) (dead c₀ m)),
             );
       }
 
-  -- it has one, which was copied or not
-  pub look-carried : (j : ℕ) (pg c′ ix′ : List ℕ) (f′ : ℕ) (r : Turn) → pg ≡ pageAt c q → Judges c ix n q (Yes j) → Carries B n h k j pg noise c f ix c′ f′ ix′ r
-      → Turns B n h i 1 k noise c f ix c′ f′ ix′ r
-  look-carried j pg c′ ix′ f′ r u d a =
-      record {
-        did = a .did;
-        right = λ c₀ lit m. a .right c₀ i lit l (u ∙ ap (pageAt c) at) m (d .one B h (oldest B (h + B) + i) (fresh B h + k) c₀ big size (omega arith) (omega arith) at m);
-      }
+  -- its page is q, and was judged
+  module _ (q : ℕ) (e : q ≡ 16 * ((h + 2) % B) + i) where
+    -- the page of its place
+    at : q ≡ pageOf B t
+    at = e ∙ sym (oldest-page B h i l)
+
+    -- what was judged of the page is so of the place
+    judged : (r : Live) → Judges c ix n q r → (c₀ : Chip) → Midway B c ix n h c₀ t s → JudgesBy B c h t s r
+    judged r d c₀ m = d .one B h t s big size (omega arith) (omega arith) (omega (arith, m .opening .fewer)) at (m .rows)
+
+    -- it has none
+    pub look-on : Judges c ix n q No → Turns B n h i 1 k noise c f ix c f ix (On k)
+    look-on d = look-dead (judged No d)
+
+    -- it has one, whose page is pg: it is copied to the block x, the spare
+    module _ (j x : ℕ) (pg : List ℕ) (low : j < n) (spares : x ≡ spare B h) (u : pg ≡ pageAt c q) (d : Judges c ix n q (Yes j)) where
+      -- its page says what its place says
+      says : (r : Rec) → recAt c (pageOf B t) ≡ some r → recOf pg ≡ some r
+      unfolding recAt
+      says r v = ap recOf (u ∙ ap (pageAt c) at) ∙ v
+
+      module _ (c₀ : Chip) (m : Midway B c ix n h c₀ t s) where
+        -- the spare has room: there is a copy for a place at most
+        room : k < 15
+        room = omega (arith, m .opening .fewer)
+
+        -- the page of the place that is written
+        here : 16 * x + k ≡ pageOf B s
+        here = ap (λ (y : ℕ). 16 * y + k) spares ∙ sym (fresh-page B h k big room)
+
+        -- the value
+        live : LiveAt B c h t s j
+        live = judged (Yes j) d c₀ m
+
+        -- its place is blank
+        never-dirty : (k < 15 → chipOf c .full (16 * x + k) ≡ true) → ⊥
+        never-dirty v = true≢false (sym (v room) ∙ ap (chipOf c .full) here ∙ copy-blank B big h c₀ (chipOf c) t s (omega arith) (m .opening))
+
+        -- the power went
+        went : (c′ : List ℕ) (f′ : ℕ) (ops : List Op) → 0 < f → Broken x k pg c f c′ f′ ops → Cut B (midway B c h c₀ i k) (chipOf c′) ops
+        went c′ f′ ops lit a =
+            let a1 = live in
+            let v : CutWrote (pageOf B s) (some (a1 .rec)) (chipOf c) (chipOf c′) =
+            subst (λ (p : ℕ). CutWrote p (some (a1 .rec)) (chipOf c) (chipOf c′)) here (a .wrote (a1 .rec) lit (says (a1 .rec) (a1 .says))) in
+            subst (Cut B (midway B c h c₀ i k) (chipOf c′)) (ap (λ (p : ℕ). write p (anew pg) ∷ []) (sym here) ∙ sym (a .began))
+            (cut-copied B h c₀ (chipOf c) t s (omega arith) (chipOf c′) (a1 .rec) (a1 .row) (anew pg) (a1 .says) (a1 .live) (a1 .stands) v)
+
+        -- it stayed: the entry is that of the copy
+        stayed : (c′ ix′ : List ℕ) (f′ o : ℕ) (ops : List Op) → Carried x k j pg c c′ f′ ix ix′ ops o → TurnsBy B n h c₀ i 1 k c c′ f′ ix′ ops (On o)
+        stayed c′ ix′ f′ o ops a =
+            let a1 = live in
+            let v : Wrote (pageOf B s) (some (a1 .rec)) (chipOf c) (chipOf c′) =
+            subst (λ (p : ℕ). Wrote p (some (a1 .rec)) (chipOf c) (chipOf c′)) here (a .wrote (a1 .rec) (says (a1 .rec) (a1 .says))) in
+            let t1 : suc t ≡ oldest B (h + B) + (i + 1) = omega arith in
+            let s1 : suc s ≡ fresh B h + o = omega (arith, a .one-more) in
+            let mid : Midway B c′ ix′ n h c₀ (suc t) (suc s) =
+            record {
+              opening = copy-done B big (chipOf c) (chipOf c′) h c₀ t s (a1 .rec) (a1 .row) (omega arith) (omega arith) (a1 .says) (a1 .live) (a1 .stands) (m .opening) v;
+              rows =
+                  ap (take n) (a .entry) ∙ take-set-lt n ix j (16 * x + k) low ∙ ap (λ (y : List ℕ). set y j (16 * x + k)) (m .rows)
+                  ∙ ap (set (pages B (run B (recAt c) (h + B) s)) j) here
+                  ∙ sym
+                  (copy-replaces B big h c₀ (chipOf c) (chipOf c′) t s (a1 .rec) (a1 .row) (omega arith) (omega arith) (a1 .says) (a1 .live) (a1 .stands) (m .opening)
+                  (live-what B big (chipOf c) (chipOf c′) h c₀ t s (a1 .rec) (a1 .row) (omega arith) (omega arith) (a1 .says) (a1 .live) (a1 .stands) (m .opening))
+                  (written-at B s (a1 .rec) (chipOf c) (chipOf c′) v) none-there j (a1 .inside) (a1 .entry));
+            } in
+            let run : Leads B (midway B c h c₀ i k) (copying h c₀ (chipOf c′) (suc t) (suc s)) (write (pageOf B s) (anew pg) ∷ []) =
+            leads-copy B h c₀ (chipOf c) t s (omega arith) (chipOf c′) (a1 .rec) (a1 .row) (anew pg) (a1 .says) (a1 .live) (a1 .stands) v in (
+              a .lit,
+              subst (λ (y : ℕ). Midway B c′ ix′ n h c₀ y (fresh B h + o)) t1 (subst (Midway B c′ ix′ n h c₀ (suc t)) s1 mid),
+              subst (Leads B (midway B c h c₀ i k) (midway B c′ h c₀ (i + 1) o)) (ap (λ (p : ℕ). write p (anew pg) ∷ []) (sym here) ∙ sym (a .began))
+                  (subst (λ (y : ℕ). Leads B (midway B c h c₀ i k) (copying h c₀ (chipOf c′) y (fresh B h + o)) (write (pageOf B s) (anew pg) ∷ [])) t1
+                  (subst (λ (y : ℕ). Leads B (midway B c h c₀ i k) (copying h c₀ (chipOf c′) (suc t) y) (write (pageOf B s) (anew pg) ∷ [])) s1 run)),
+            )
+
+      -- one of these
+      pub look-carried : (c′ ix′ : List ℕ) (f′ : ℕ) (r : Turn) → Carries x k j pg noise c f ix c′ f′ ix′ r → Turns B n h i 1 k noise c f ix c′ f′ ix′ r
+      look-carried c′ ix′ f′ r a = record { did = a .did; right = λ c₀ lit m. go c₀ lit m r (a .did .ops) (a .right) }
+        where
+          go : (c₀ : Chip) → 0 < f → Midway B c ix n h c₀ t s → (r : Turn) (ops : List Op) → CarriesBy x k j pg c f ix c′ f′ ix′ ops r → TurnsBy B n h c₀ i 1 k c c′ f′ ix′ ops r
+          go c₀ lit m (On o) ops w = stayed c₀ m c′ ix′ f′ o ops w
+          go c₀ lit m Dark ops w = (w .out, went c₀ m c′ f′ ops lit w)
+          go c₀ lit m Dirty ops w = never-dirty c₀ m w
 
 -- ---- ONE AFTER ANOTHER
 module _ (B n h : ℕ) (noise c : List ℕ) (f : ℕ) (ix : List ℕ) where
@@ -214,22 +197,21 @@ module _ (B n h : ℕ) (noise c : List ℕ) (f : ℕ) (ix : List ℕ) where
 
 -- ---- A BLOCK WITHOUT LIVE VALUES: nothing is done
 module _ (B : ℕ) (big : 4 ≤ B) (noise c ix : List ℕ) (size : length c ≡ 4096 * B) (f n h : ℕ) where
-  turns-dead : ((i : ℕ) → i < 15 → Judges c ix n (16 * ((h + 2) % B) + i) No) → (i : ℕ) → i ≤ 15 → Turns B n h 0 i 0 noise c f ix c f ix (On 0)
+  turns-dead : ((i : ℕ) → i < 15 → Turns B n h i 1 0 noise c f ix c f ix (On 0)) → (i : ℕ) → i ≤ 15 → Turns B n h 0 i 0 noise c f ix c f ix (On 0)
   turns-dead dead zero l = turns-none B n h noise c f ix
   turns-dead dead (suc i) l =
       subst (λ (y : ℕ). Turns B n h 0 y 0 noise c f ix c f ix (On 0)) (add-one i)
-      (turns-next B n h noise c f ix i c ix f 0 (turns-dead dead i (omega arith)) c ix f (On 0)
-      (look-on B big noise c ix size f n h i 0 (16 * ((h + 2) % B) + i) (omega arith) refl (dead i (omega arith))))
+      (turns-next B n h noise c f ix i c ix f 0 (turns-dead dead i (omega arith)) c ix f (On 0) (dead i (omega arith)))
 
   -- the index has no page of it
   pub turns-unlisted : (x : ℕ) → x ≡ (h + 2) % B → unlisted x ix n ≡ true → Turns B n h 0 15 0 noise c f ix c f ix (On 0)
-  turns-unlisted x e u = turns-dead (λ i l. judge-unlisted c ix n (16 * ((h + 2) % B) + i) x u (omega arith)) 15 (omega arith)
+  turns-unlisted x e u =
+      turns-dead
+      (λ i l.
+      look-on B big noise c ix size f n h i 0 l (16 * ((h + 2) % B) + i) refl (judge-unlisted c ix n (16 * ((h + 2) % B) + i) x u (omega arith)))
+      15 (omega arith)
 
   -- it isn't sealed
   pub turns-unused : sealed (chipOf c) ((h + 2) % B) ≡ false → Turns B n h 0 15 0 noise c f ix c f ix (On 0)
   turns-unused u =
-      turns-dead
-      (λ i l.
-      let b : (h + 2) % B ≡ (16 * ((h + 2) % B) + i) / 16 = omega arith in
-      judge-unused c ix n (16 * ((h + 2) % B) + i) (subst (λ (x : ℕ). sealed (chipOf c) x ≡ false) b u))
-      15 (omega arith)
+      turns-dead (λ i l. look-dead B big noise c ix size f n h i 0 l (λ c₀ m. dead-unused B big c h i (fresh B h + 0) l (m .opening .ring) u)) 15 (omega arith)

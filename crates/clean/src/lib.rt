@@ -4,6 +4,7 @@ use index::Found;
 ghost use Prim.Native.Nat.{_+_, _*_, _≤_, _<_};
 ghost use mathlib.Core.Path.{_≡_};
 ghost use lib.ListN.{length};
+ghost use Rattle.log.specs.Ring.{mostBlocks};
 ghost use Rattle.clean.specs.Ends.{Sane, LiveWithin, Few, elsewhere, unlisted, unlistedRun};
 ghost use Rattle.clean.specs.Steps.{Judges, Carries, Turns};
 
@@ -14,7 +15,7 @@ pub enum Live {
     No,
 }
 
-fn is_live(chip: &[u8], index: &[u32], n: usize, q: usize) -> Live
+pub fn is_live(chip: &[u8], index: &[u32], n: usize, q: usize) -> Live
     requires { ⌜ (n ≤ length (now index)) × (256 * q + 256 ≤ length (now chip)) ⌝ }
     ensures within { λ r. ⌜ LiveWithin n r ⌝ }
     ensures right { λ r. ⌜ Judges (now (chip .entry)) (now (index .entry)) n q r ⌝ }
@@ -38,28 +39,26 @@ pub enum Turn {
     Dirty,
 }
 
-// The page of a live value, whose entry is j, is made anew at place k of the spare.
-fn carry(
+// The page of a live value, whose entry is j, is made anew at place k of block x, and its entry is that page.
+pub fn carry(
     chip: &mut [u8],
     index: &mut [u32],
-    n: usize,
-    b: usize,
-    h: usize,
+    x: usize,
     k: usize,
     j: usize,
     page: &[u8],
     fuse: &mut u64,
     noise: &[u8],
 ) -> Turn
-    requires { ⌜ Sane b (now chip) (now index) (now noise) n h ⌝ }
-    requires { ⌜ (length (now page) ≡ 256) × (j < n) ⌝ }
-    ensures right { λ r. ⌜ Carries b n h k j (now (page .entry)) (now (noise .entry)) (now (chip .entry)) (now (fuse .entry)) (now (index .entry)) (now (chip .exit)) (now (fuse .exit)) (now (index .exit)) r ⌝ }
+    requires { ⌜ (x < mostBlocks) × (4096 * x + 4096 ≤ length (now chip)) × (length (now noise) ≡ 4096) ⌝ }
+    requires { ⌜ (length (now page) ≡ 256) × (j < length (now index)) ⌝ }
+    ensures right { λ r. ⌜ Carries x k j (now (page .entry)) (now (noise .entry)) (now (chip .entry)) (now (fuse .entry)) (now (index .entry)) (now (chip .exit)) (now (fuse .exit)) (now (index .exit)) r ⌝ }
     ensures few { λ r. ⌜ Few r ⌝ }
 {
     if log::PLACES <= k {
         return Turn::Dirty;
     }
-    let p = 16 * log::block_after(h, 1, b) + k;
+    let p = 16 * x + k;
     if !chip::blank_at(chip, p) {
         return Turn::Dirty;
     }
@@ -93,7 +92,8 @@ fn look_at(
     match is_live(chip, index, n, q) {
         Live::Yes(j) => {
             let page = chip::page_at(chip, q);
-            carry(chip, index, n, b, h, k, j, &page, fuse, noise)
+            let spare = log::block_after(h, 1, b);
+            carry(chip, index, spare, k, j, &page, fuse, noise)
         }
         Live::No => Turn::On(k),
     }

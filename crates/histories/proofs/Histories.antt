@@ -14,6 +14,7 @@ use Rattle.record.specs.Record.{Rec, recordOf}
 use Rattle.log.specs.Map.{Map}
 use Rattle.log.specs.Ring.{chipOf, head, Ring, ringTest, table, mapOf, room}
 use Rattle.log.specs.Call.{resting, Trace}
+use Rattle.log.specs.Call.{begin as called}
 use Rattle.log.specs.Wear.{erasesOf, missed}
 use Rattle.log.specs.Answers.{refuse, refused, done, lent, putAnswer, getAnswer, deleteAnswer, countAnswer, startAnswer}
 use Rattle.log.specs.Answers.{Answer as Says}
@@ -21,7 +22,7 @@ use Rattle.log.proofs.RingLaws.{ring-head, ring-test}
 use Rattle.log.proofs.Start.{blank-ring, blank-map}
 use Rattle.log.proofs.AnswerLaws.{refuse-done}
 use Rattle.log.proofs.WearCall.{Worn, worn-blank, worn-dark, worn-call, worn-even, worn-few}
-use Rattle.lent.specs.Area.{blocksOf, Sized, mapIn, mark, lentOf, lentToStart, Holds, Kept, Store}
+use Rattle.lent.specs.Area.{blocksOf, Sized, mapIn, mark, passed, lentOf, lentToStart, Holds, Kept, Store}
 use Rattle.fetch.specs.Fetched.{Gets, Counts, GetEnds, CountEnds}
 use Rattle.change.specs.Changed.{ChangesBy, Ended, PutEnds, DeleteEnds, Came}
 use Rattle.start.specs.Started.{StartsBy, StartEnds}
@@ -100,17 +101,18 @@ module _ (B : ℕ) (big : 4 ≤ B) where
 
   -- ---- A PUT OR A DELETE
   module _ (F : Type 0) (x : Rec) (noise c : List ℕ) (f : ℕ) (w c′ : List ℕ) (f′ : ℕ) (w′ : List ℕ) (n q : ℕ) (ops : List Op) where
-    few-table : Store c → length c ≡ 4096 * B → length (table B (chipOf c)) ≤ room B
-    few-table s e =
-        let b : blocksOf c ≡ B = blocks-are c e in
-        let k : length (mapOf B (chipOf c)) ≤ room B = subst (λ (i : ℕ). length (mapOf i (chipOf c)) ≤ room i) b (s .few) in
-        omega (arith, k, map-rows B (chipOf c))
+    few-table : (d : List ℕ) → Store d → length d ≡ 4096 * B → length (table B (chipOf d)) ≤ room B
+    few-table d s e =
+        let b : blocksOf d ≡ B = blocks-are d e in
+        let k : length (mapOf B (chipOf d)) ≤ room B = subst (λ (i : ℕ). length (mapOf i (chipOf d)) ≤ room i) b (s .few) in
+        omega (arith, k, map-rows B (chipOf d))
 
     -- the steps of a call wear the chip
-    step-worn : (b : Bool) (l : List Op) (m : Map (List ℕ)) → Lives F (on noise f w) c n q ops → F → Came b x c c′ l m → Worn B (suc n) (q + missed b) (ops ++ l) (chipOf c′)
-    step-worn b l m y i k =
-        worn-call B big n q ops x (chipOf c) (chipOf c′) l b (few-table (y .store) (y .size))
-        (subst (λ (i : ℕ). Trace i x (resting (chipOf c) (head i (chipOf c))) (chipOf c′) l b) (blocks-are c (y .size)) (k .trace)) (y .worn i)
+    step-worn : (b : Bool) (p s : ℕ) (l : List Op) (m : Map (List ℕ)) → length c′ ≡ 4096 * B → Lives F (on noise f w) c n q ops → F → Came b x p s c c′ l m
+        → Worn B (suc n) (q + missed b) (ops ++ l) (chipOf c′)
+    step-worn b p s l m z y i k =
+        worn-call B big n q ops x (called p) (chipOf c) (chipOf c′) s l b (few-table c (y .store) (y .size)) (few-table c′ (k .store) z)
+        (subst (λ (i : ℕ). Trace i x (called p) (resting (chipOf c) (head i (chipOf c))) (chipOf c′) s l b) (blocks-are c (y .size)) (k .trace)) (y .worn i)
 
     -- 0 < f where document 01 does not refuse with 7
     pub step-lives : (s : Says (Map (List ℕ))) (r : Answer) (e : Ended x noise c f w c′ f′ w′ s r) → ((m : Map (List ℕ)) → s ≡ done m → 0 < f)
@@ -148,9 +150,9 @@ module _ (B : ℕ) (big : 4 ≤ B) where
               tended = record { sized = fits; lit = λ _. (marked, holds) };
               worn = λ i.
                   subst (λ (i : ℕ). Worn B i (q + failed f f′) (ops ++ e .did .ops) (chipOf c′)) a
-                  (subst (λ (i : ℕ). Worn B (suc n) i (ops ++ e .did .ops) (chipOf c′)) b (step-worn true (e .did .ops) m y i k));
+                  (subst (λ (i : ℕ). Worn B (suc n) i (ops ++ e .did .ops) (chipOf c′)) b (step-worn true (passed w) (passed w′) (e .did .ops) m sized y i k));
             }
-        go (done m) d (inr (er, gone, marked, k)) =
+        go (done m) d (inr (er, gone, marked, (p, k))) =
             let z : failed f f′ ≡ 1 = goes-dark f f′ (lit m d) gone in
             let a : suc n ≡ n + counted f f′ r = omega (arith, ap (counted f f′) er, z) in
             let b : q + 1 ≡ q + failed f f′ = omega (arith, z) in
@@ -160,7 +162,7 @@ module _ (B : ℕ) (big : 4 ≤ B) where
               tended = record { sized = fits; lit = λ l. absurd (omega arith) };
               worn = λ i.
                   subst (λ (i : ℕ). Worn B i (q + failed f f′) (ops ++ e .did .ops) (chipOf c′)) a
-                  (subst (λ (i : ℕ). Worn B (suc n) i (ops ++ e .did .ops) (chipOf c′)) b (step-worn false (e .did .ops) m y i k));
+                  (subst (λ (i : ℕ). Worn B (suc n) i (ops ++ e .did .ops) (chipOf c′)) b (step-worn false (passed w) p (e .did .ops) m sized y i k));
             }
 
     -- and what the documents say of it
@@ -170,7 +172,7 @@ module _ (B : ℕ) (big : 4 ≤ B) where
         go : (t : Says (Map (List ℕ))) → ChangesBy x c f w c′ f′ w′ (e .did .ops) t r → ToldBy t f′ r (mapIn c) (mapIn c′)
         go (refused k) (er, ec, ew, ef, eo) = (er, ap mapIn ec)
         go (done m) (inl (er, on-still, marked, holds, k)) = inl (er, k .map)
-        go (done m) (inr (er, gone, marked, k)) = inr (er, gone, k .map)
+        go (done m) (inr (er, gone, marked, (p, k))) = inr (er, gone, k .map)
 
   -- ---- an answer that is done comes with power
   pub lit-on : (f : ℕ) (w c : List ℕ) (a : Says (Map (List ℕ))) (m : Map (List ℕ)) → lent (lentOn c f w) a ≡ done m → 0 < f
@@ -324,8 +326,8 @@ module _ (B : ℕ) (big : 4 ≤ B) where
       pub wear-even : (i j : ℕ) → i < B → j < B → erasesOf i ops ≤ erasesOf j ops + (1 + q)
       wear-even i j a b = worn-even B big n q ops (chipOf c) (lives h .worn fresh) i j a b
 
-      -- few: all erases together are at most n / 7 + q
-      pub wear-few : erases ops ≤ n / 7 + q
+      -- few: all erases together are at most n / 6 + q
+      pub wear-few : erases ops ≤ n / 6 + q
       wear-few = omega (arith, worn-few B big n q ops (chipOf c) (lives h .worn fresh))
 
       -- document 03 asks for n / 4 + 2 q + B

@@ -37,8 +37,8 @@ pub record Ever (B : ℕ) {s : Phase} {c : List ℕ} {n q : ℕ} {ops : List Op}
   pub was-put : (k : Key) (v : List ℕ) → lookup k (mapIn c) ≡ some v → WasPut h k v
   -- WEAR IS EVEN, of a chip that began blank: the erases of any two blocks differ by at most 1 + q
   pub wear-even : Fresh h → (i j : ℕ) → i < B → j < B → erasesOf i ops ≤ erasesOf j ops + (1 + q)
-  -- AND FEW: all erases together are at most n / 7 + q; document 03 asks for n / 4 + 2 q + B
-  pub wear-few : Fresh h → erases ops ≤ n / 7 + q
+  -- AND FEW: all erases together are at most n / 6 + q; document 03 asks for n / 4 + 2 q + B
+  pub wear-few : Fresh h → erases ops ≤ n / 6 + q
   pub wear-asked : Fresh h → erases ops ≤ n / 4 + 2 * q + B
   -- EACH KEY CAN BE PRINTED, of a chip that began blank
   pub keys-printed : Fresh h → (k : Key) (v : List ℕ) → lookup k (mapIn c) ≡ some v → printed k ≡ true

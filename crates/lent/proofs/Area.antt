@@ -1,4 +1,4 @@
--- The work area as a list: the index is lent, and three words are put down. Assumes nothing.
+-- The work area as a list: the index is lent, and four words are put down. Assumes nothing.
 use mathlib.Core.Path.{_≡_, sym, ap, _∙_}
 use mathlib.Core.List.{List, _++_}
 use Prim.Native.Nat.{ℕ, _≤_, _<_}
@@ -8,31 +8,39 @@ use lib.Seq.{length-take-le, take-append-le, drop-at, drop-set-lt, getD-take, ge
 use borrow.Rule.Slice.PartMut.{midOf, postOf, putMid, put-same, take-put}
 use Rattle.lent.specs.Area.{Sized}
 
--- ---- the head, the next place and the number of keys are put down
-abbrev pub downed : List ℕ → ℕ → ℕ → ℕ → List ℕ
-downed v h x n = set (set (set v 1 h) 2 x) 3 n
+-- ---- the head, the next place, the number of keys and the cursor are put down
+abbrev pub downed : List ℕ → ℕ → ℕ → ℕ → ℕ → List ℕ
+downed v h x n p = set (set (set (set v 1 h) 2 x) 3 n) 4 p
 
-module _ (v : List ℕ) (h x n : ℕ) where
-  pub downed-0 : getD (downed v h x n) 0 0 ≡ getD v 0 0
+module _ (v : List ℕ) (h x n p : ℕ) where
+  -- a word before them, and the words from 16 on, stay
+  pub downed-0 : getD (downed v h x n p) 0 0 ≡ getD v 0 0
   downed-0 =
-      getD-set-other (set (set v 1 h) 2 x) 3 0 n 0 (λ e. omega arith) ∙ getD-set-other (set v 1 h) 2 0 x 0 (λ e. omega arith)
-      ∙ getD-set-other v 1 0 h 0 (λ e. omega arith)
+      getD-set-other (set (set (set v 1 h) 2 x) 3 n) 4 0 p 0 (λ e. omega arith) ∙ getD-set-other (set (set v 1 h) 2 x) 3 0 n 0 (λ e. omega arith)
+      ∙ getD-set-other (set v 1 h) 2 0 x 0 (λ e. omega arith) ∙ getD-set-other v 1 0 h 0 (λ e. omega arith)
 
-  -- the words from 16 on stay
-  pub downed-16 : drop 16 (downed v h x n) ≡ drop 16 v
-  downed-16 = drop-set-lt 16 (set (set v 1 h) 2 x) 3 n (omega arith) ∙ drop-set-lt 16 (set v 1 h) 2 x (omega arith) ∙ drop-set-lt 16 v 1 h (omega arith)
+  pub downed-16 : drop 16 (downed v h x n p) ≡ drop 16 v
+  downed-16 =
+      drop-set-lt 16 (set (set (set v 1 h) 2 x) 3 n) 4 p (omega arith) ∙ drop-set-lt 16 (set (set v 1 h) 2 x) 3 n (omega arith)
+      ∙ drop-set-lt 16 (set v 1 h) 2 x (omega arith) ∙ drop-set-lt 16 v 1 h (omega arith)
 
   module _ (l : 16 ≤ length v) where
-    pub downed-1 : getD (downed v h x n) 1 0 ≡ h
+    pub downed-1 : getD (downed v h x n p) 1 0 ≡ h
     downed-1 =
-        getD-set-other (set (set v 1 h) 2 x) 3 1 n 0 (λ e. omega arith) ∙ getD-set-other (set v 1 h) 2 1 x 0 (λ e. omega arith)
-        ∙ getD-set-same v 1 h 0 (omega arith)
+        getD-set-other (set (set (set v 1 h) 2 x) 3 n) 4 1 p 0 (λ e. omega arith) ∙ getD-set-other (set (set v 1 h) 2 x) 3 1 n 0 (λ e. omega arith)
+        ∙ getD-set-other (set v 1 h) 2 1 x 0 (λ e. omega arith) ∙ getD-set-same v 1 h 0 (omega arith)
 
-    pub downed-2 : getD (downed v h x n) 2 0 ≡ x
-    downed-2 = getD-set-other (set (set v 1 h) 2 x) 3 2 n 0 (λ e. omega arith) ∙ getD-set-same (set v 1 h) 2 x 0 (simp length-set (omega arith))
+    pub downed-2 : getD (downed v h x n p) 2 0 ≡ x
+    downed-2 =
+        getD-set-other (set (set (set v 1 h) 2 x) 3 n) 4 2 p 0 (λ e. omega arith) ∙ getD-set-other (set (set v 1 h) 2 x) 3 2 n 0 (λ e. omega arith)
+        ∙ getD-set-same (set v 1 h) 2 x 0 (simp length-set (omega arith))
 
-    pub downed-3 : getD (downed v h x n) 3 0 ≡ n
-    downed-3 = getD-set-same (set (set v 1 h) 2 x) 3 n 0 (simp length-set (omega arith))
+    pub downed-3 : getD (downed v h x n p) 3 0 ≡ n
+    downed-3 =
+        getD-set-other (set (set (set v 1 h) 2 x) 3 n) 4 3 p 0 (λ e. omega arith) ∙ getD-set-same (set (set v 1 h) 2 x) 3 n 0 (simp length-set (omega arith))
+
+    pub downed-4 : getD (downed v h x n p) 4 0 ≡ p
+    downed-4 = getD-set-same (set (set (set v 1 h) 2 x) 3 n) 4 p 0 (simp length-set (omega arith))
 
 -- ---- the words from 16 on were lent, and have come back as ix
 module _ (w ix : List ℕ) (k : ℕ) (l : 16 ≤ length w) where

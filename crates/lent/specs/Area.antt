@@ -36,6 +36,10 @@ mapIn c = mapOf (blocksOf c) (chipOf c)
 abbrev pub mark : List ℕ → ℕ
 mark w = getD w 0 0
 
+-- where the cursor of cleaning stands
+abbrev pub passed : List ℕ → ℕ
+passed w = getD w 4 0
+
 -- what is lent to a call: the power has gone if the script is at 0, or if the mark is 2; the store is ready if the mark is 1
 abbrev pub lentOf : List ℕ → ℕ → List ℕ → Lent
 lentOf c f w = record { chip = length c; work = length w; dark = eqb f 0 || eqb (mark w) 2; ready = eqb (mark w) 1 }

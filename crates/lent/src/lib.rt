@@ -1,8 +1,8 @@
 // What every call is lent, and what it tests first (document 01, section 3): the sizes, the power, the mark of the work area, the key. Its definitions are
 // those that every contract of a call cites: specs/Area.antt, specs/Tested.antt.
 //
-// The work area is lent: word 0 is the mark (1: a start made it ready; 2: the power has gone since), 1 the head, 2 its next place, 3 the number of keys;
-// from word 16 on stands the index.
+// The work area is lent: word 0 is the mark (1: a start made it ready; 2: the power has gone since), 1 the head, 2 its next place, 3 the number of keys,
+// 4 the cursor of cleaning; from word 16 on stands the index.
 ghost use mathlib.Core.Bool.{false};
 ghost use mathlib.Core.Path.{_≡_};
 ghost use Prim.Native.Nat.{_≤_, _<_};
@@ -17,14 +17,15 @@ pub enum Answer {
     Refused(u32),
 }
 
-// The head, the next place and the number of keys are put down.
-pub fn note_down(work: &mut [u32], h: u32, next: u32, n: u32)
+// The head, the next place, the number of keys and the cursor are put down.
+pub fn note_down(work: &mut [u32], h: u32, next: u32, n: u32, passed: u32)
     requires { ⌜ 16 ≤ length (now work) ⌝ }
-    ensures { λ _. ⌜ now (work .exit) ≡ set (set (set (now (work .entry)) 1 h) 2 next) 3 n ⌝ }
+    ensures { λ _. ⌜ now (work .exit) ≡ set (set (set (set (now (work .entry)) 1 h) 2 next) 3 n) 4 passed ⌝ }
 {
     work[1] = h;
     work[2] = next;
     work[3] = n;
+    work[4] = passed;
 }
 
 // How many blocks a chip has whose lengths are allowed, and 0 for any other: refusal 5.

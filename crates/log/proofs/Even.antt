@@ -218,12 +218,12 @@ module _ (b : ℕ) where
       go true = omega arith
       go false = omega arith
 
-  -- FEW: all erases are at most n / 7 + q, where 7 r ≤ n
+  -- FEW: all erases are at most n / 6 + q, where 6 r ≤ n
   pub load-le : (l : List Event) → load B (λ b. 1) l ≤ openings l + failures l
   load-le [] = omega arith
   load-le (opens ∷ l) = omega (arith, load-le l, one (openings l))
   load-le (again ∷ l) = omega (arith, load-le l, one (openings l))
   load-le (lost ∷ l) = omega (arith, load-le l)
 
-  pub few : (l : List Event) (n : ℕ) → 7 * openings l ≤ n → 7 * load B (λ b. 1) l ≤ n + 7 * failures l
+  pub few : (l : List Event) (n : ℕ) → 6 * openings l ≤ n → 6 * load B (λ b. 1) l ≤ n + 6 * failures l
   few l n h = omega (arith, load-le l)

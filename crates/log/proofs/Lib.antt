@@ -18,6 +18,7 @@ pub mod Start
 pub mod Append
 pub mod Bytes
 pub mod Crash
+pub mod Carry
 pub mod Walk
 pub mod CallLaws
 pub mod CallCost

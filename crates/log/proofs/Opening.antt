@@ -7,23 +7,22 @@ use mathlib.Core.List.{List}
 use mathlib.Core.Option.{none, some}
 use mathlib.Core.Bool.{Bool, true, false}
 use Prim.Native.Nat.{ℕ, suc, _+_, _-_, _*_, _/_, _%_, _≤_, _<_}
-use native.Mathlib.Nat.{mul-suc, mul-comm, mod-eq-of-lt}
+use native.Mathlib.Nat.{mod-eq-of-lt}
 use native.Mathlib.Decide.{ℕ-discrete}
 use native.Mathlib.Omega.{arith}
 use lib.ListN.{length}
 use Rattle.record.specs.Record.{Rec}
 use Rattle.log.specs.Key.{Key}
-use Rattle.log.specs.Map.{lookup, alter, total}
-use Rattle.log.specs.Log.{Placed, placed, pageOf, oldest, run, bytes, pages}
-use Rattle.log.specs.Ring.{Chip, sealed, spare, Later, Ring, next, table, mapOf, Ready}
+use Rattle.log.specs.Map.{Map, lookup, alter}
+use Rattle.log.specs.Log.{Placed, placed, pageOf, oldest, run, bytes, pages, FIRST, U}
+use Rattle.log.specs.Ring.{Chip, sealed, spare, Later, Ring, next, table, mapOf, room, Ready}
 use Rattle.log.specs.Call.{Page, Block}
-use Rattle.log.specs.Wear.{ages, phi, potential, ripes}
+use Rattle.log.specs.Wear.{age, ages, phi, potential, ripes}
 use Rattle.log.specs.Opening.{Fresh, From, fresh, Opening}
-use Rattle.log.proofs.MapLaws.{All, some≢none}
+use Rattle.log.proofs.MapLaws.{some≢none}
 use Rattle.log.proofs.RingLaws.{round-later, round-first, next-is}
 use Rattle.log.proofs.Steps.{Written, Free, run-write, copy-bytes, spare-page, table-at, wrote, block-later, block-ring, block-run, block-map, page-block-only, in-spare, unsealed-map, seal-ring}
-use Rattle.log.proofs.WearLaws.{ages-turn, ages-copy, ripes-turn, ripes-copy, count-copy, phi-open}
-use Rattle.log.proofs.MapMore.{all-lookup, total-ones}
+use Rattle.log.proofs.WearLaws.{Under, ages-turn, ages-moved, ripes-turn, ripes-moved, count-copy, phi-moved}
 use Rattle.log.proofs.Window.{page-block, page-unsealed, page-inj, page-lt}
 use Rattle.log.proofs.LogLaws.{Stands}
 use Rattle.log.proofs.Index.{pages-length, same-place}
@@ -59,17 +58,32 @@ module _ (B : ℕ) (big : 4 ≤ B) (h : ℕ) (c₀ : Chip) where
         memory = ap bytes same;
         chip = chip;
         still = still;
-        older =
-            let z : fresh B h - fresh B h ≡ 0 = omega arith in
-            omega (arith, ap (λ (x : ℕ). (B - 1) * x) z, ages-turn (h + B) (run B (c .recs) (h + B) (fresh B h)) young, ap (ages (h + B)) same, ap length same);
-        ripened = λ j l. omega (arith, ripes-turn j (h + B) (run B (c .recs) (h + B) (fresh B h)) young, ap (ripes j (h + B)) same);
+        older = λ few.
+            let q : phi (B - 2) (fresh B h - fresh B h) (ages (h + B + 1) (fresh B h - fresh B h) (run B (c .recs) (h + B) (fresh B h)))
+            ≡ phi (B - 2) 0 (ages (h + B + 1) FIRST (run B (c .recs) (h + B) (fresh B h))) =
+            ap (λ (x : ℕ). phi (B - 2) x (ages (h + B + 1) x (run B (c .recs) (h + B) (fresh B h)))) none in
+            omega (arith, q, ages-turn (h + B) 15 (run B (c .recs) (h + B) (fresh B h)) (run-sorted B (c .recs) (h + B) (fresh B h)) under refl, ap (ages (h + B) 15) same);
+        ripened = λ w l.
+            let q : ripes (w + (fresh B h - fresh B h)) (h + B + 1) (fresh B h - fresh B h) (run B (c .recs) (h + B) (fresh B h))
+            ≡ ripes (w + 0) (h + B + 1) FIRST (run B (c .recs) (h + B) (fresh B h)) =
+            ap (λ (x : ℕ). ripes (w + x) (h + B + 1) x (run B (c .recs) (h + B) (fresh B h))) none in
+            let y : ripes (w + 0) (h + B + 1) FIRST (run B (c .recs) (h + B) (fresh B h)) ≡ ripes w (h + B + 1) FIRST (run B (c .recs) (h + B) (fresh B h)) =
+            ap (λ (x : ℕ). ripes x (h + B + 1) FIRST (run B (c .recs) (h + B) (fresh B h))) {x = w + 0} {y = w} (omega arith) in
+            omega (
+              arith,
+              q,
+              y,
+              ripes-turn (h + B) 15 (run B (c .recs) (h + B) (fresh B h)) (run-sorted B (c .recs) (h + B) (fresh B h)) under refl w,
+              ap (ripes w (h + B) 15) same,
+            );
         count = ap length same;
       }
     where
-      young : All (λ a. a .0 / 15 ≤ h + B + 1) (run B (c .recs) (h + B) (fresh B h))
-      young =
-          all-lookup (λ a. a .0 / 15 ≤ h + B + 1) (run B (c .recs) (h + B) (fresh B h)) (run-sorted B (c .recs) (h + B) (fresh B h))
-          (λ k a l. let w : Stands B (c .recs) (oldest B (h + B)) (fresh B h - oldest B (h + B)) k a = run-stands B (c .recs) (h + B) (fresh B h) k a l in omega arith)
+      none : fresh B h - fresh B h ≡ 0
+      none = omega arith
+
+      under : Under (h + B) 15 (run B (c .recs) (h + B) (fresh B h))
+      under k a l = let w : Stands B (c .recs) (oldest B (h + B)) (fresh B h - oldest B (h + B)) k a = run-stands B (c .recs) (h + B) (fresh B h) k a l in omega arith
 
   -- the oldest block is sealed, and the spare was erased
   pub opening-erased : (c : Chip) → Ring B c₀ h → sealed c₀ ((h + 2) % B) ≡ true → Block (spare B h) c₀ c → ((p : ℕ) → p / 16 ≡ spare B h → c .full p ≡ false)
@@ -170,30 +184,64 @@ module _ (B : ℕ) (big : 4 ≤ B) (h : ℕ) (c₀ : Chip) where
           run-write B (c .recs) (c′ .recs) (h + B) s x (omega (arith, o .copies)) (omega (arith, o .copies, o .fewer)) (wrote B big s x c c′ w)
           ∙ rw (key, what)
 
-      counted : total (λ (y : Placed). 1) (alter (r .key) (some (placed s (a .1))) (run B (c .recs) (h + B) s)) ≡ total (λ (y : Placed). 1) (run B (c .recs) (h + B) s)
-      counted = count-copy (r .key) a (placed s (a .1)) (run B (c .recs) (h + B) s) (run-sorted B (c .recs) (h + B) s) live
+      abbrev n : ℕ
+      n = s - fresh B h
 
-      turn : ages (h + B + 1) (run B (c′ .recs) (h + B) (suc s)) + (B - 1) * (suc s - fresh B h) ≡ ages (h + B) (table B c₀) + length (table B c₀)
-      turn =
-          let y : a .0 / 15 + (B - 2) ≡ h + B = omega arith in
-          let n : suc s - fresh B h ≡ suc (s - fresh B h) = omega (arith, o .copies) in
+      abbrev m : Map Placed
+      m = run B (c .recs) (h + B) s
+
+      spot : 15 * (h + B + 1) + n ≡ s
+      spot = omega (arith, o .copies)
+
+      -- the copy, by its place of the next block
+      grown-at : run B (c′ .recs) (h + B) (suc s) ≡ alter (r .key) (some (placed (15 * (h + B + 1) + n) (a .1))) m
+      grown-at = grown ∙ ap (λ (x : ℕ). alter (r .key) (some (placed x (a .1))) m) (sym spot)
+
+      under : Under (h + B + 1) n m
+      under k b e = let w : Stands B (c .recs) (oldest B (h + B)) (s - oldest B (h + B)) k b = run-stands B (c .recs) (h + B) s k b e in omega (arith, w .below, spot)
+
+      short : n < 15
+      short = omega (arith, o .fewer)
+
+      one-more : suc s - fresh B h ≡ suc n
+      one-more = omega (arith, o .copies)
+
+      -- it was among the oldest
+      old : U * (B - 2) + n < age (h + B + 1) n a
+      old = omega arith
+
+      turn : length (table B c₀) ≤ room B → phi (B - 2) (suc s - fresh B h) (ages (h + B + 1) (suc s - fresh B h) (run B (c′ .recs) (h + B) (suc s))) ≤ ages (h + B) 15 (table B c₀)
+      turn few =
+          let q : phi (B - 2) (suc s - fresh B h) (ages (h + B + 1) (suc s - fresh B h) (run B (c′ .recs) (h + B) (suc s)))
+          ≡ phi (B - 2) (suc n) (ages (h + B + 1) (suc n) (alter (r .key) (some (placed (15 * (h + B + 1) + n) (a .1))) m)) =
+          ap (λ (x : ℕ). phi (B - 2) x (ages (h + B + 1) x (run B (c′ .recs) (h + B) (suc s)))) one-more
+          ∙ ap (λ (y : Map Placed). phi (B - 2) (suc n) (ages (h + B + 1) (suc n) y)) grown-at in
+          let y = ages-moved (h + B + 1) n m (run-sorted B (c .recs) (h + B) s) under short (r .key) a (a .1) live in
           omega (
             arith,
-            o .older,
-            ap (ages (h + B + 1)) grown,
-            ages-copy (B - 2) (h + B) s (r .key) a (run B (c .recs) (h + B) s) (run-sorted B (c .recs) (h + B) s) live y place,
-            ap (λ (z : ℕ). (B - 1) * z) n,
-            mul-suc (B - 1) (s - fresh B h),
+            q,
+            phi-moved (B - 2) n (ages (h + B + 1) n m) (ages (h + B + 1) (suc n) (alter (r .key) (some (placed (15 * (h + B + 1) + n) (a .1))) m)) (length m) (age (h + B + 1) n a)
+                (omega (arith, few, o .count)) (omega (arith, old)) y,
+            o .older few,
           )
 
-      riper : (j : ℕ) → j + 1 < B → ripes (suc j) (h + B + 1) (run B (c′ .recs) (h + B) (suc s)) + (suc s - fresh B h) ≡ ripes j (h + B) (table B c₀)
-      riper j k =
+      riper : (w : ℕ) → w ≤ U * (B - 2)
+          → ripes (w + (suc s - fresh B h)) (h + B + 1) (suc s - fresh B h) (run B (c′ .recs) (h + B) (suc s)) + (suc s - fresh B h) ≡ ripes w (h + B) 15 (table B c₀)
+      riper w l =
+          let q : ripes (w + (suc s - fresh B h)) (h + B + 1) (suc s - fresh B h) (run B (c′ .recs) (h + B) (suc s))
+          ≡ ripes (w + suc n) (h + B + 1) (suc n) (alter (r .key) (some (placed (15 * (h + B + 1) + n) (a .1))) m) =
+          ap (λ (x : ℕ). ripes (w + x) (h + B + 1) x (run B (c′ .recs) (h + B) (suc s))) one-more
+          ∙ ap (λ (y : Map Placed). ripes (w + suc n) (h + B + 1) (suc n) y) grown-at in
+          let z : ripes (w + suc n) (h + B + 1) (suc n) (alter (r .key) (some (placed (15 * (h + B + 1) + n) (a .1))) m)
+          ≡ ripes (suc (w + n)) (h + B + 1) (suc n) (alter (r .key) (some (placed (15 * (h + B + 1) + n) (a .1))) m) =
+          ap (λ (x : ℕ). ripes x (h + B + 1) (suc n) (alter (r .key) (some (placed (15 * (h + B + 1) + n) (a .1))) m)) {x = w + suc n} {y = suc (w + n)} (omega arith) in
           omega (
             arith,
-            o .copies,
-            o .ripened j k,
-            ap (ripes (suc j) (h + B + 1)) grown,
-            ripes-copy j (h + B) s (r .key) a (run B (c .recs) (h + B) s) (run-sorted B (c .recs) (h + B) s) live (omega arith) place,
+            q,
+            z,
+            one-more,
+            ripes-moved (h + B + 1) n m (run-sorted B (c .recs) (h + B) s) under short (r .key) a (a .1) live (w + n) (omega (arith, old)),
+            o .ripened w l,
           )
 
       -- whole: the loop goes on with one place and one copy more
@@ -218,7 +266,7 @@ module _ (B : ℕ) (big : 4 ≤ B) (h : ℕ) (c₀ : Chip) where
             still = block-potential B big c c′ h (o .ring) k f ∙ o .still;
             older = turn;
             ripened = riper;
-            count = sym (total-ones (run B (c′ .recs) (h + B) (suc s))) ∙ ap (total (λ (y : Placed). 1)) grown ∙ counted ∙ total-ones (run B (c .recs) (h + B) s) ∙ o .count;
+            count = ap length grown ∙ count-copy (r .key) a (placed s (a .1)) m (run-sorted B (c .recs) (h + B) s) live ∙ o .count;
           }
         where
           filled : (u : ℕ) → fresh B h ≤ u → u < suc s → Dec (u ≡ s) → c′ .full (pageOf B u) ≡ true
@@ -276,22 +324,21 @@ module _ (B : ℕ) (big : 4 ≤ B) (h : ℕ) (c₀ : Chip) where
 
       -- ---- what it costs
 
-      -- the potential falls by 7 B and one more
-      pub opening-paid : length (table B c₀) ≤ 8 * (B - 2)
-          → phi (B - 2) (s - fresh B h) (ages (spare B h + B) (table B c′)) + 7 * B + 1 ≤ phi (B - 2) 15 (ages (h + B) (table B c₀))
+      -- the potential of the new head is no more than the ages were
+      pub opening-paid : length (table B c₀) ≤ room B
+          → phi (B - 2) (s - fresh B h) (ages (spare B h + B) (s - fresh B h) (table B c′)) ≤ ages (h + B) 15 (table B c₀)
       opening-paid few =
-          let p : B - 2 + 1 ≡ B - 1 = omega arith in
-          let q : ages (spare B h + B) (table B c′) + (s - fresh B h) * (B - 2 + 1) ≡ ages (h + B) (table B c₀) + length (table B c₀) =
-          ap (λ (z : ℕ). ages (spare B h + B) (table B c′) + (s - fresh B h) * z) p
-          ∙ ap (λ (z : ℕ). ages (spare B h + B) (table B c′) + z) (mul-comm (s - fresh B h) (B - 1))
-          ∙ ap (λ (z : ℕ). z + (B - 1) * (s - fresh B h)) (turned-ages B h (run B (c .recs) (h + B) s) (table B c′) opening-turned)
-          ∙ o .older in
-          omega (arith, phi-open (B - 2) (s - fresh B h) (length (table B c₀)) (ages (h + B) (table B c₀)) (ages (spare B h + B) (table B c′)) few q)
+          omega (
+            arith,
+            ap (phi (B - 2) (s - fresh B h)) (turned-ages B h (run B (c .recs) (h + B) s) (table B c′) (s - fresh B h) opening-turned),
+            o .older few,
+          )
 
       -- of the values that this call has not moved, one less for each copy
-      pub opening-progress : (j : ℕ) → j + 1 < B → ripes (suc j) (spare B h + B) (table B c′) + (s - fresh B h) ≡ ripes j (h + B) (table B c₀)
-      opening-progress j l =
-          ap (λ (z : ℕ). z + (s - fresh B h)) (turned-ripes B h (run B (c .recs) (h + B) s) (table B c′) (suc j) opening-turned) ∙ o .ripened j l
+      pub opening-progress : (w : ℕ) → w ≤ U * (B - 2)
+          → ripes (w + (s - fresh B h)) (spare B h + B) (s - fresh B h) (table B c′) + (s - fresh B h) ≡ ripes w (h + B) 15 (table B c₀)
+      opening-progress w l =
+          ap (λ (z : ℕ). z + (s - fresh B h)) (turned-ripes B h (run B (c .recs) (h + B) s) (table B c′) (w + (s - fresh B h)) (s - fresh B h) opening-turned) ∙ o .ripened w l
 
       -- there are as many rows as before
       pub opening-count : length (table B c′) ≡ length (table B c₀)

@@ -5,7 +5,7 @@ use mathlib.Core.Bool.{false}
 use Prim.Native.Nat.{ℕ, _+_, _-_, _*_, _/_, _≤_}
 use native.Mathlib.Omega.{arith}
 use Rattle.log.specs.Map.{Map}
-use Rattle.log.specs.Log.{Placed}
+use Rattle.log.specs.Log.{Placed, FIRST}
 use Rattle.log.specs.Ring.{Chip, sealed, spare, Later, Ring, next, table}
 use Rattle.log.specs.Call.{Page, Block}
 use Rattle.log.specs.Wear.{ages, phi, potential}
@@ -14,15 +14,15 @@ use Rattle.log.proofs.Steps.{spare-other, block-ring, block-table, unse
 
 module _ (B : ℕ) (big : 4 ≤ B) where
   -- the potential of a ring, by its head
-  pub potential-at : (c : Chip) (h : ℕ) → Ring B c h → potential B c ≡ phi (B - 2) (next c h) (ages (h + B) (table B c))
+  pub potential-at : (c : Chip) (h : ℕ) → Ring B c h → potential B c ≡ phi (B - 2) (next c h - FIRST) (ages (h + B) (next c h) (table B c))
   unfolding potential
-  potential-at c h r = ap (λ (x : ℕ). phi (B - 2) (next c x) (ages (x + B) (table B c))) (ring-head B big c h r)
+  potential-at c h r = ap (λ (x : ℕ). phi (B - 2) (next c x - FIRST) (ages (x + B) (next c x) (table B c))) (ring-head B big c h r)
 
   same-potential : (c c′ : Chip) (h : ℕ) → Ring B c h → Ring B c′ h → next c′ h ≡ next c h → table B c′ ≡ table B c → potential B c′ ≡ potential B c
   same-potential c c′ h r r′ n t =
       potential-at c′ h r′
-      ∙ ap (λ (x : ℕ). phi (B - 2) x (ages (h + B) (table B c′))) n
-      ∙ ap (λ (m : Map Placed). phi (B - 2) (next c h) (ages (h + B) m)) t
+      ∙ ap (λ (x : ℕ). phi (B - 2) (x - FIRST) (ages (h + B) x (table B c′))) n
+      ∙ ap (λ (m : Map Placed). phi (B - 2) (next c h - FIRST) (ages (h + B) (next c h) m)) t
       ∙ sym (potential-at c h r)
 
   -- it does not see the spare

@@ -37,8 +37,8 @@ module _ (B : ℕ) where
   up-total f g h [] = refl
   up-total f g h (p ∷ m) = omega (arith, h (p .1), up-total f g h m)
 
-  up-age : (e : ℕ) (a : Placed) → age (B + e) (up B a) ≡ age e a
-  up-age e a = omega arith
+  up-age : (e n : ℕ) (a : Placed) → age (B + e) n (up B a) ≡ age e n a
+  up-age e n a = omega arith
 
   module _ (h : ℕ) (m m′ : Map Placed) where
     -- the index is the same
@@ -57,20 +57,20 @@ module _ (B : ℕ) where
     turned-length (inr (e, q)) = sym (ap length e ∙ length-mapV (up B) m′)
 
     -- so are the ages, seen from the new head
-    pub turned-ages : Turned h m m′ → ages (spare B h + B) m′ ≡ ages (h + B + 1) m
-    turned-ages (inl (e, q)) = ap (λ (x : ℕ). ages x m′) q ∙ ap (ages (h + B + 1)) e
-    turned-ages (inr (e, q)) =
-        sym (ap (ages (h + B + 1)) e
-        ∙ ap (λ (x : ℕ). ages x (mapV (up B) m′)) (sym q)
-        ∙ up-total (age (B + (spare B h + B))) (age (spare B h + B)) (up-age (spare B h + B)) m′)
+    pub turned-ages : (n : ℕ) → Turned h m m′ → ages (spare B h + B) n m′ ≡ ages (h + B + 1) n m
+    turned-ages n (inl (e, q)) = ap (λ (x : ℕ). ages x n m′) q ∙ ap (ages (h + B + 1) n) e
+    turned-ages n (inr (e, q)) =
+        sym (ap (ages (h + B + 1) n) e
+        ∙ ap (λ (x : ℕ). ages x n (mapV (up B) m′)) (sym q)
+        ∙ up-total (age (B + (spare B h + B)) n) (age (spare B h + B) n) (up-age (spare B h + B) n) m′)
 
-    -- and the values older than j
-    pub turned-ripes : (j : ℕ) → Turned h m m′ → ripes j (spare B h + B) m′ ≡ ripes j (h + B + 1) m
-    turned-ripes j (inl (e, q)) = ap (λ (x : ℕ). ripes j x m′) q ∙ ap (ripes j (h + B + 1)) e
-    turned-ripes j (inr (e, q)) =
-        sym (ap (ripes j (h + B + 1)) e
-        ∙ ap (λ (x : ℕ). ripes j x (mapV (up B) m′)) (sym q)
-        ∙ up-total (ripe j (B + (spare B h + B))) (ripe j (spare B h + B)) (λ a. ap (λ (x : ℕ). cond (leb (suc j) x) 1 0) (up-age (spare B h + B) a)) m′)
+    -- and the values older than w
+    pub turned-ripes : (w n : ℕ) → Turned h m m′ → ripes w (spare B h + B) n m′ ≡ ripes w (h + B + 1) n m
+    turned-ripes w n (inl (e, q)) = ap (λ (x : ℕ). ripes w x n m′) q ∙ ap (ripes w (h + B + 1) n) e
+    turned-ripes w n (inr (e, q)) =
+        sym (ap (ripes w (h + B + 1) n) e
+        ∙ ap (λ (x : ℕ). ripes w x n (mapV (up B) m′)) (sym q)
+        ∙ up-total (ripe w (B + (spare B h + B)) n) (ripe w (spare B h + B) n) (λ a. ap (λ (x : ℕ). cond (leb (suc w) x) 1 0) (up-age (spare B h + B) n a)) m′)
 
 module _ (B : ℕ) (big : 4 ≤ B) (c c′ : Chip) (h s : ℕ) (r : Ring B c h) (w : Page (16 * h + 15) c c′) where
   -- THE SEAL moves the ring on: if no value stands in the oldest block, the table is that of the run up to s, the end of the copies

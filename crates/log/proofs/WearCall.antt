@@ -10,9 +10,9 @@ use native.Mathlib.Omega.{arith}
 use lib.ListN.{length}
 use Rattle.chip.specs.Play.{Op, erase, write, erases}
 use Rattle.record.specs.Record.{Rec}
-use Rattle.log.specs.Log.{pageOf, oldest}
+use Rattle.log.specs.Log.{pageOf, oldest, U}
 use Rattle.log.specs.Ring.{Chip, sealed, spare, Ring, head, table, room}
-use Rattle.log.specs.Call.{Page, Block, State, resting, copying, chipAt, Trace, stop, append, append-cut, erasing, erase-cut, first, skip, copy, copy-cut, seal, seal-cut}
+use Rattle.log.specs.Call.{Page, Block, State, resting, copying, chipAt, Cursor, on, back, Trace, stop, pass, carry, carry-cut, append, append-cut, erasing, erase-cut, first, skip, copy, copy-cut, seal, seal-cut}
 use Rattle.log.specs.Wear.{potential, weights, only, erasesOf, missed}
 use Rattle.log.specs.Opening.{fresh}
 use Rattle.log.proofs.Window.{page-unsealed}
@@ -23,7 +23,8 @@ use Rattle.log.proofs.Opening.{copy-still}
 use Rattle.log.proofs.Potential.{block-potential, unsealed-potential}
 use Rattle.log.proofs.Append.{place, put-paid, lost-paid}
 use Rattle.log.proofs.Crash.{append-written, append-cut-at, append-done, append-lost, erase-lost, skip-done, copy-done, copy-lost}
-use Rattle.log.proofs.CallCost.{Rest, Copies, erased-fits, first-fits, on-fits, seal-fits, seal-paid, blank-potential}
+use Rattle.log.proofs.Carry.{carry-paid, carry-lost}
+use Rattle.log.proofs.CallCost.{Rest, Copies, carry-fits, erased-fits, first-fits, on-fits, seal-fits, seal-paid, blank-potential}
 use Rattle.log.proofs.Numbered.{Numbered, numbered-spare, numbered-blank, numbered-kept, numbered-next}
 use Rattle.log.proofs.Even.{Event, opens, again, lost, openings, failures, strike, load, even, few}
 
@@ -49,7 +50,7 @@ module _ (B : ℕ) where
     pub at : ℕ
     pub ring : Ring B c′ at
     pub number : Numbered B c′ at (openings events)
-    pub paid : potential B c′ + 7 * (B * openings events) ≤ cost st + B + 7 * (B * openings E)
+    pub paid : potential B c′ + (B - 2) * ((U - 9) * U * openings events) ≤ cost st + (U - 1) * (B - 2) + (B - 2) * ((U - 9) * U * openings E)
     pub failed : failures events ≡ failures E + fails
     pub worn : (g : ℕ → ℕ) → load B g events ≡ base g E st + n g
 
@@ -111,9 +112,44 @@ module _ (B : ℕ) (big : 4 ≤ B) (x : Rec) where
           }
 
   -- ---- WHAT A CALL WEARS, from any state of it
-  wear-from : (E : List Event) (st : State) (c′ : Chip) (l : List Op) (b : Bool) → Trace B x st c′ l b → Fit B E st → Left B (missed b) (λ g. weights g l) E st c′
-  wear-from E _ _ _ _ (stop st) g = stopped E st g
-  wear-from E _ _ _ _ (append c c′ h new n w) (g, m) =
+  wear-from : (E : List Event) (u : Cursor) (st : State) (c′ : Chip) (p : ℕ) (l : List Op) (b : Bool) → Trace B x u st c′ p l b → length (table B c′) ≤ room B → Fit B E st
+      → Left B (missed b) (λ g. weights g l) E st c′
+  wear-from E u _ _ _ _ _ (stop _ st) fits g = stopped E st g
+  wear-from E u _ _ _ _ _ (pass _ c c′ h p l b n looks dead k) fits g = wear-from E (on u) (resting c h) c′ p l b k fits g
+  wear-from E u _ _ _ _ _ (carry _ c d c′ h p new l b r a n looks live w k) fits (g, m) =
+      let v : Written B (place B big c h) r c d = append-written B big c d h (g .ring) n r w in
+      let y : Left B (missed b) (λ q. weights q l) E (resting d h) c′ =
+      wear-from E (on u) (resting d h) c′ p l b k fits (
+        carry-fits B big u c d h r a n looks live w g,
+        numbered-kept B big c d h (openings E) (g .ring .inside) (λ b k. seals-page c d (place B big c h) b (v .page)) m,
+      ) in
+      record {
+        events = y .events;
+        at = y .at;
+        ring = y .ring;
+        number = y .number;
+        paid = omega (arith, y .paid, carry-paid B big u c d h (g .ring) n looks r a live v (g .few));
+        failed = y .failed;
+        worn = λ q. y .worn q;
+      }
+  wear-from E u _ _ _ _ _ (carry-cut _ c c′ h new r a n looks live w) fits (g, m) = go (append-cut-at B big c c′ h (g .ring) n r w)
+    where
+      left : Page (pageOf B (place B big c h)) c c′ → potential B c′ ≤ potential B c + (U - 1) * (B - 2) → Left B 1 (λ q. 0) E (resting c h) c′
+      left f y =
+          record {
+            events = lost ∷ E;
+            at = h;
+            ring = carry-lost B big u c c′ h (g .ring) n looks r a live w .0;
+            number = numbered-kept B big c c′ h (openings E) (g .ring .inside) (λ b k. seals-page c c′ (place B big c h) b f) m;
+            paid = omega arith;
+            failed = omega arith;
+            worn = λ q. omega arith;
+          }
+
+      go : Written B (place B big c h) r c c′ ⊎ Spoilt B (place B big c h) c c′ → Left B 1 (λ q. 0) E (resting c h) c′
+      go (inl v) = left (v .page) (omega (arith, carry-paid B big u c c′ h (g .ring) n looks r a live v (g .few)))
+      go (inr v) = left (v .page) (lost-paid B big c c′ h (g .ring) n v (g .few))
+  wear-from E u _ _ _ _ _ (append _ c c′ h new n z w) fits (g, m) =
       record {
         events = E;
         at = h;
@@ -121,13 +157,13 @@ module _ (B : ℕ) (big : 4 ≤ B) (x : Rec) where
         number =
             numbered-kept B big c c′ h (openings E) (g .ring .inside)
             (λ b k. seals-page c c′ (place B big c h) b (append-written B big c c′ h (g .ring) n x w .page)) m;
-        paid = omega (arith, put-paid B big c c′ h (g .ring) n x (append-written B big c c′ h (g .ring) n x w));
+        paid = omega (arith, put-paid B big c c′ h (g .ring) n x (append-written B big c c′ h (g .ring) n x w) fits);
         failed = omega arith;
         worn = λ q. omega arith;
       }
-  wear-from E _ _ _ _ (append-cut c c′ h new n w) (g, m) = go (append-cut-at B big c c′ h (g .ring) n x w)
+  wear-from E u _ _ _ _ _ (append-cut _ c c′ h new n z w) fits (g, m) = go (append-cut-at B big c c′ h (g .ring) n x w)
     where
-      left : Page (pageOf B (place B big c h)) c c′ → potential B c′ ≤ potential B c + B → Left B 1 (λ q. 0) E (resting c h) c′
+      left : Page (pageOf B (place B big c h)) c c′ → potential B c′ ≤ potential B c + (U - 1) * (B - 2) → Left B 1 (λ q. 0) E (resting c h) c′
       left p y =
           record {
             events = lost ∷ E;
@@ -140,11 +176,11 @@ module _ (B : ℕ) (big : 4 ≤ B) (x : Rec) where
           }
 
       go : Written B (place B big c h) x c c′ ⊎ Spoilt B (place B big c h) c c′ → Left B 1 (λ q. 0) E (resting c h) c′
-      go (inl v) = left (v .page) (put-paid B big c c′ h (g .ring) n x v)
-      go (inr v) = left (v .page) (lost-paid B big c c′ h (g .ring) n v)
-  wear-from E _ _ _ _ (erasing c d c′ h l b n t w k) (g, m) =
+      go (inl v) = left (v .page) (put-paid B big c c′ h (g .ring) n x v fits)
+      go (inr v) = left (v .page) (lost-paid B big c c′ h (g .ring) n v (g .few))
+  wear-from E u _ _ _ _ _ (erasing _ c d c′ h p l b n t w k) fits (g, m) =
       let y : Left B (missed b) (λ q. weights q l) E (copying h c d (oldest B (h + B)) (fresh B h)) c′ =
-      wear-from E (copying h c d (oldest B (h + B)) (fresh B h)) c′ l b k
+      wear-from E u (copying h c d (oldest B (h + B)) (fresh B h)) c′ p l b k fits
       (erased-fits B big c d h n t w g, numbered-kept B big c d h (openings E) (g .ring .inside) (λ a e. seals-block c d (spare B h) a (w .block) e) m) in
       record {
         events = y .events;
@@ -155,7 +191,7 @@ module _ (B : ℕ) (big : 4 ≤ B) (x : Rec) where
         failed = y .failed;
         worn = λ q. omega (arith, strike-yes q c h E m t, y .worn q);
       }
-  wear-from E _ _ _ _ (erase-cut c c′ h n t w) (g, m) =
+  wear-from E u _ _ _ _ _ (erase-cut _ c c′ h n t w) fits (g, m) =
       record {
         events = again ∷ E;
         at = h;
@@ -165,9 +201,9 @@ module _ (B : ℕ) (big : 4 ≤ B) (x : Rec) where
         failed = omega arith;
         worn = λ q. omega (arith, strike-yes q c h E m t);
       }
-  wear-from E _ _ _ _ (first c c′ h l b n t k) (g, m) =
+  wear-from E u _ _ _ _ _ (first _ c c′ h p l b n t k) fits (g, m) =
       let y : Left B (missed b) (λ q. weights q l) E (copying h c c (oldest B (h + B)) (fresh B h)) c′ =
-      wear-from E (copying h c c (oldest B (h + B)) (fresh B h)) c′ l b k (first-fits B big c h n t g, m) in
+      wear-from E u (copying h c c (oldest B (h + B)) (fresh B h)) c′ p l b k fits (first-fits B big c h n t g, m) in
       record {
         events = y .events;
         at = y .at;
@@ -177,18 +213,18 @@ module _ (B : ℕ) (big : 4 ≤ B) (x : Rec) where
         failed = y .failed;
         worn = λ q. omega (arith, strike-no q c h E m t, y .worn q);
       }
-  wear-from E _ _ _ _ (skip h c₀ c c′ t s l b i dead k) (g, m) =
+  wear-from E u _ _ _ _ _ (skip _ h c₀ c c′ t s p l b i dead k) fits (g, m) =
       let y : Left B (missed b) (λ q. weights q l) E (copying h c₀ c (suc t) s) c′ =
-      wear-from E (copying h c₀ c (suc t) s) c′ l b k (on-fits B big h c₀ c c t s s (skip-done B big c c h c₀ t s i dead (g .opening)) g, m) in
+      wear-from E u (copying h c₀ c (suc t) s) c′ p l b k fits (on-fits B big h c₀ c c t s s (skip-done B big c c h c₀ t s i dead (g .opening)) g, m) in
       record { events = y .events; at = y .at; ring = y .ring; number = y .number; paid = y .paid; failed = y .failed; worn = y .worn }
-  wear-from E _ _ _ _ (copy h c₀ c d c′ t s new l b r a i at live stands w k) (g, m) =
+  wear-from E u _ _ _ _ _ (copy _ h c₀ c d c′ t s p new l b r a i at live stands w k) fits (g, m) =
       let y : Left B (missed b) (λ q. weights q l) E (copying h c₀ d (suc t) (suc s)) c′ =
-      wear-from E (copying h c₀ d (suc t) (suc s)) c′ l b k (
+      wear-from E u (copying h c₀ d (suc t) (suc s)) c′ p l b k fits (
         on-fits B big h c₀ c d t s (suc s) (copy-done B big c d h c₀ t s r a (g .low) i at live stands (g .opening) w) g,
         numbered-kept B big c d h (openings E) (g .opening .ring .inside) (λ b k. seals-page c d s b (w .page)) m,
       ) in
       record { events = y .events; at = y .at; ring = y .ring; number = y .number; paid = y .paid; failed = y .failed; worn = λ q. y .worn q }
-  wear-from E _ _ _ _ (copy-cut h c₀ c c′ t s new r a i at live stands w) (g, m) =
+  wear-from E u _ _ _ _ _ (copy-cut _ h c₀ c c′ t s new r a i at live stands w) fits (g, m) =
       record {
         events = again ∷ E;
         at = h;
@@ -198,9 +234,9 @@ module _ (B : ℕ) (big : 4 ≤ B) (x : Rec) where
         failed = omega arith;
         worn = λ q. omega arith;
       }
-  wear-from E _ _ _ _ (seal h c₀ c d c′ s new l b w k) (g, m) =
+  wear-from E u _ _ _ _ _ (seal _ h c₀ c d c′ s p new l b w k) fits (g, m) =
       let y : Left B (missed b) (λ q. weights q l) (opens ∷ E) (resting d (spare B h)) c′ =
-      wear-from (opens ∷ E) (resting d (spare B h)) c′ l b k
+      wear-from (opens ∷ E) (back u) (resting d (spare B h)) c′ p l b k fits
       (seal-fits B big h c₀ c d s (w .page) (w .fills) g, numbered-next B big c d h (openings E) (g .opening .ring) (g .opening .round) (w .page) (w .fills) m) in
       record {
         events = y .events;
@@ -211,7 +247,7 @@ module _ (B : ℕ) (big : 4 ≤ B) (x : Rec) where
         failed = y .failed;
         worn = λ q. omega (arith, y .worn q);
       }
-  wear-from E _ _ _ _ (seal-cut h c₀ c c′ s new w) g = sealing E h c₀ c c′ s (w .page) g
+  wear-from E u _ _ _ _ _ (seal-cut _ h c₀ c c′ s new w) fits g = sealing E h c₀ c c′ s (w .page) g
 
 -- ---- WEAR: n calls, q failures of the power, and the operations that were begun
 
@@ -231,7 +267,7 @@ pub record Worn (B n q : ℕ) (ops : List Op) (c : Chip) : Type 0 where
   pub at : ℕ
   pub ring : Ring B c at
   pub number : Numbered B c at (openings events)
-  pub paid : potential B c + 7 * (B * openings events) ≤ B * n
+  pub paid : potential B c + (B - 2) * ((U - 9) * U * openings events) ≤ (B - 2) * ((U - 1) * n)
   pub failed : failures events ≡ q
   pub worn : (g : ℕ → ℕ) → load B g events ≡ weights g ops
 
@@ -255,12 +291,12 @@ module _ (B : ℕ) (big : 4 ≤ B) where
       record { events = lost ∷ y .events; at = y .at; ring = y .ring; number = y .number; paid = y .paid; failed = ap suc (y .failed); worn = y .worn }
 
   -- a call more
-  pub worn-call : (n q : ℕ) (ops : List Op) (x : Rec) (c c′ : Chip) (l : List Op) (b : Bool) → length (table B c) ≤ room B
-      → Trace B x (resting c (head B c)) c′ l b → Worn B n q ops c → Worn B (suc n) (q + missed b) (ops ++ l) c′
-  worn-call n q ops x c c′ l b few t y =
+  pub worn-call : (n q : ℕ) (ops : List Op) (x : Rec) (u : Cursor) (c c′ : Chip) (p : ℕ) (l : List Op) (b : Bool) → length (table B c) ≤ room B → length (table B c′) ≤ room B
+      → Trace B x u (resting c (head B c)) c′ p l b → Worn B n q ops c → Worn B (suc n) (q + missed b) (ops ++ l) c′
+  worn-call n q ops x u c c′ p l b few fits t y =
       let e : y .at ≡ head B c = sym (ring-head B big c (y .at) (y .ring)) in
       let z : Left B (missed b) (λ g. weights g l) (y .events) (resting c (head B c)) c′ =
-      wear-from B big x (y .events) (resting c (head B c)) c′ l b t
+      wear-from B big x (y .events) u (resting c (head B c)) c′ p l b t fits
       (record { ring = subst (Ring B c) e (y .ring); few = few }, subst (λ (h : ℕ). Numbered B c h (openings (y .events))) e (y .number)) in
       record {
         events = z .events;
@@ -281,14 +317,17 @@ module _ (B : ℕ) (big : 4 ≤ B) where
         subst (λ (z : ℕ). load z (only i) (y .events) ≤ load z (only j) (y .events) + (1 + failures (y .events))) e (even (B - 2) (y .events) i j (omega arith) (omega arith)) in
         omega (arith, k, y .worn (only i), y .worn (only j), y .failed)
 
-    -- FEW: all erases together are at most n / 7 + q
-    pub worn-few : 7 * erases ops ≤ n + 7 * q
+    -- FEW: all erases together are at most n / 6 + q
+    pub worn-few : 6 * erases ops ≤ n + 6 * q
     worn-few =
         let e : B - 2 + 2 ≡ B = omega arith in
-        let k : 7 * load B (λ b. 1) (y .events) ≤ n + 7 * failures (y .events) =
-        subst (λ (z : ℕ). 7 * load z (λ b. 1) (y .events) ≤ n + 7 * failures (y .events)) e (few (B - 2) (y .events) n (seven (decLt n (7 * openings (y .events))))) in
+        let k : 6 * load B (λ b. 1) (y .events) ≤ n + 6 * failures (y .events) =
+        subst (λ (z : ℕ). 6 * load z (λ b. 1) (y .events) ≤ n + 6 * failures (y .events)) e (few (B - 2) (y .events) n (six (decLt n (6 * openings (y .events))))) in
         omega (arith, k, y .worn (λ b. 1), y .failed, ones ops)
       where
-        seven : Dec (n < 7 * openings (y .events)) → 7 * openings (y .events) ≤ n
-        seven (no l) = omega arith
-        seven (yes l) = absurd (omega (arith, mul-le-mul-left B l, y .paid))
+        -- an opening gives back what 90 / 14 calls raise it by
+        six : Dec (n < 6 * openings (y .events)) → 6 * openings (y .events) ≤ n
+        six (no l) = omega arith
+        six (yes l) =
+            let z : 14 * n + 14 ≤ 84 * openings (y .events) = omega arith in
+            absurd (omega (arith, mul-le-mul-left (B - 2) z, y .paid))

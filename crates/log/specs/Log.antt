@@ -58,6 +58,17 @@ logFrom B recs s (suc n) = entry s (recs (pageOf B s)) ++ logFrom B recs (suc s)
 abbrev pub oldest : ℕ → ℕ → ℕ
 oldest B e = 15 * (e + 2 - B)
 
+-- THE CURSOR OF CLEANING counts the places of the log that records may stand at: U in each block, from place FIRST on. Its log place p, where the head is block
+-- number e, is the place
+abbrev pub FIRST : ℕ
+FIRST = 0
+
+abbrev pub U : ℕ
+U = 15
+
+abbrev pub logPlace : ℕ → ℕ → ℕ → ℕ
+logPlace B e p = oldest B e + 15 * ((p - FIRST) / U) + (FIRST + (p - FIRST) % U)
+
 -- the map of the places from the oldest up to s, each value with its place
 unfoldable pub run : ℕ → Recs → ℕ → ℕ → Map Placed
 run B recs e s = replay (logFrom B recs (oldest B e) (s - oldest B e)) []

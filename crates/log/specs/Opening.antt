@@ -9,9 +9,9 @@ use Prim.Native.Nat.{ℕ, suc, _+_, _-_, _*_, _≤_, _<_}
 use lib.ListN.{length, getD}
 use Rattle.log.specs.Key.{Key}
 use Rattle.log.specs.Map.{Map, lookup}
-use Rattle.log.specs.Log.{Placed, pageOf, oldest, run, bytes}
+use Rattle.log.specs.Log.{Placed, pageOf, oldest, run, bytes, U}
 use Rattle.log.specs.Ring.{Chip, sealed, spare, First, Later, Ring, next, table, mapOf, room}
-use Rattle.log.specs.Wear.{ages, ripes, potential}
+use Rattle.log.specs.Wear.{ages, ripes, phi, potential}
 
 -- where a list has no row
 abbrev pub none-there : Key × Placed
@@ -50,13 +50,14 @@ module _ (B : ℕ) where
     pub memory : bytes (run B (c .recs) (h + B) s) ≡ mapOf B c₀
     pub chip : mapOf B c ≡ mapOf B c₀
     pub still : potential B c ≡ potential B c₀
-    -- the sum of ages, seen from the next head: B - 1 less for each copy; and of the values older than j one less
-    pub older : ages (h + B + 1) (run B (c .recs) (h + B) s) + (B - 1) * (s - fresh h) ≡ ages (h + B) (table B c₀) + length (table B c₀)
-    pub ripened : (j : ℕ) → j + 1 < B → ripes (suc j) (h + B + 1) (run B (c .recs) (h + B) s) + (s - fresh h) ≡ ripes j (h + B) (table B c₀)
+    -- the potential of memory, seen from the next head, is no more than the ages were; and of the values older than w there is one less for each copy
+    pub older : length (table B c₀) ≤ room B
+        → phi (B - 2) (s - fresh h) (ages (h + B + 1) (s - fresh h) (run B (c .recs) (h + B) s)) ≤ ages (h + B) 15 (table B c₀)
+    pub ripened : (w : ℕ) → w ≤ U * (B - 2)
+        → ripes (w + (s - fresh h)) (h + B + 1) (s - fresh h) (run B (c .recs) (h + B) s) + (s - fresh h) ≡ ripes w (h + B) 15 (table B c₀)
     pub count : length (run B (c .recs) (h + B) s) ≡ length (table B c₀)
 
-  -- the invariant of the loop "while the head is full: open the next block"
+  -- NO VALUE IS MOVED TWICE IN A CALL: it has opened j blocks and moved K values to the places written since it began
   pub record Moved (c : Chip) (h j K : ℕ) : Type 0 where
-    pub rows : K + ripes j (h + B) (table B c) ≤ room B
-    pub full : next c h ≡ 15 → 15 * j ≤ K
-    pub most : 15 * j ≤ K + 15
+    pub rows : K + ripes K (h + B) (next c h) (table B c) ≤ room B
+    pub most : U * j + next c h ≤ K + 15

@@ -1,36 +1,36 @@
 -- Ages and the potential, by which openings are paid for (document 03, section 3). Nothing here mentions code. Assumes nothing.
 use mathlib.Core.Bool.{Bool, true, false, cond}
 use mathlib.Core.List.{List, [], _∷_}
-use Prim.Native.Nat.{ℕ, suc, _+_, _-_, _*_, _/_}
+use Prim.Native.Nat.{ℕ, suc, _+_, _-_, _*_, _/_, _%_}
 use lib.Dec.{eqb, leb}
 use Rattle.chip.specs.Play.{Op, erase, write}
 use Rattle.log.specs.Map.{Map, total}
-use Rattle.log.specs.Log.{Placed}
+use Rattle.log.specs.Log.{Placed, FIRST, U}
 use Rattle.log.specs.Ring.{Chip, head, next, table}
 
--- how old a value is, where the head is block number e: 1 in the head's own block, B - 1 in the oldest
-abbrev pub age : ℕ → Placed → ℕ
-age e a = e + 1 - a .0 / 15
+-- how old a value is, where the head is block number e and has n pages: 1 at the place written last, and one more for each place of the log since
+abbrev pub age : ℕ → ℕ → Placed → ℕ
+age e n a = U * (e - a .0 / 15) + n - a .0 % 15
 
 -- the sum of the ages
-abbrev pub ages : ℕ → Map Placed → ℕ
-ages e m = total (age e) m
+abbrev pub ages : ℕ → ℕ → Map Placed → ℕ
+ages e n m = total (age e n) m
 
--- how many values are older than j: after j openings of a call, those that it has not moved
-abbrev pub ripe : ℕ → ℕ → Placed → ℕ
-ripe j e a = cond (leb (suc j) (age e a)) 1 0
+-- how many values are older than w: after w places were written, those that were not moved
+abbrev pub ripe : ℕ → ℕ → ℕ → Placed → ℕ
+ripe w e n a = cond (leb (suc w) (age e n a)) 1 0
 
 -- and in a map
-abbrev pub ripes : ℕ → ℕ → Map Placed → ℕ
-ripes j e m = total (ripe j e) m
+abbrev pub ripes : ℕ → ℕ → ℕ → Map Placed → ℕ
+ripes w e n m = total (ripe w e n) m
 
--- the potential of a chip of b + 2 blocks, by the used places of the head and the sum of the ages
+-- the potential of a chip of k + 2 blocks, by the used places of the head and the sum of the ages
 abbrev pub phi : ℕ → ℕ → ℕ → ℕ
-phi b used sum = (b + 1) * used + sum
+phi k used sum = k * ((U - 9) * used) + sum
 
--- THE POTENTIAL: a call raises it by at most B, an opening lowers it by at least 7 B + 1
+-- THE POTENTIAL: a call raises it by at most (U - 1) (B - 2), an opening lowers it by at least U (U - 9) (B - 2)
 unfoldable pub potential : ℕ → Chip → ℕ
-potential B c = phi (B - 2) (next c (head B c)) (ages (head B c + B) (table B c))
+potential B c = phi (B - 2) (next c (head B c) - FIRST) (ages (head B c + B) (next c (head B c)) (table B c))
 
 -- ---- THE ERASES THAT WERE BEGUN, each weighted by its block
 abbrev pub weights : (ℕ → ℕ) → List Op → ℕ

@@ -12,6 +12,11 @@ pub const MOST_BLOCKS: usize = 4096;
 // How many places of a block take records; the page after them is its seal.
 pub const PLACES: usize = 15;
 
+// Of those, the places of a block that the cursor counts: from the first, all 15.
+pub const FIRST: usize = 0;
+
+pub const RECORDS: usize = 15;
+
 // The block k after block h of the ring.
 pub fn block_after(h: usize, k: usize, b: usize) -> usize
     requires { ⌜ (h < b) × (k ≤ b) × (b ≤ mostBlocks) × (4 ≤ b) ⌝ }

@@ -3,7 +3,7 @@ use mathlib.Core.Path.{_≡_, refl, sym, ap, _∙_, subst}
 use mathlib.Core.List.{List, [], _∷_, _++_}
 use mathlib.Core.Option.{none}
 use mathlib.Core.Bool.{true, false, not, true≢false}
-use Prim.Native.Nat.{ℕ, suc, _+_, _-_, _*_, _%_, _≤_, _<_}
+use Prim.Native.Nat.{ℕ, zero, suc, _+_, _-_, _*_, _%_, _≤_, _<_}
 use native.Mathlib.Omega.{arith}
 use lib.ListN.{length, take}
 use Rattle.chip.specs.Chip.{power, blankAt, written, erased}
@@ -11,9 +11,9 @@ use Rattle.chip.specs.Play.{Op, erase, Writable, Did}
 use Rattle.chip.proofs.Power.{write-stayed, write-went, erase-stayed}
 use Rattle.chip.proofs.Plays.{did-none, did-erase, did-write, did-meant, did-more, did-then}
 use Rattle.record.specs.Record.{recAt, sealPage}
-use Rattle.log.specs.Log.{oldest, run, pages}
-use Rattle.log.specs.Ring.{Chip, chipOf, sealed, spare, table, room, Ready}
-use Rattle.log.specs.Call.{State, resting, copying, Block, Erased, Wrote, CutWrote, Leads, Cut}
+use Rattle.log.specs.Log.{oldest, run, pages, FIRST}
+use Rattle.log.specs.Ring.{Chip, chipOf, sealed, spare, table, mapOf, room, Ready}
+use Rattle.log.specs.Call.{State, resting, copying, cursor, Goes, Block, Erased, Wrote, CutWrote, Leads, Cut}
 use Rattle.log.specs.Opening.{Opening, fresh, Moved}
 use Rattle.log.proofs.Index.{pages-length}
 use Rattle.log.proofs.Opening.{opening-erased, opening-fresh, opening-map, opening-ready}
@@ -21,12 +21,12 @@ use Rattle.log.proofs.CallCost.{moved-start, moved-few, moved-open}
 use Rattle.log.proofs.RingLaws.{next-le}
 use Rattle.log.proofs.IndexSteps.{erased-keeps, first-keeps}
 use Rattle.log.proofs.Bytes.{wrote-seal, cut-seal, block-erased, whole-erased}
-use Rattle.log.proofs.Walk.{leads-none, leads-then, leads-cut, leads-erase, cut-erase, leads-first, leads-seal, cut-sealed}
+use Rattle.log.proofs.Walk.{goes-none, goes-then, goes-ends, leads-back, leads-cut, leads-erase, cut-erase, leads-first, leads-seal, cut-sealed}
 use Rattle.clean.specs.declared.Turn.{Turn}
 use Rattle.clean.specs.declared.Turn.the-variants.{On, Dark, Dirty}
 use Rattle.opening.specs.declared.Room.the-variants.{Place, Gone, Stuck}
 use Rattle.clean.specs.Steps.{midway, Turns}
-use Rattle.opening.specs.Steps.{Clears, OpensBy, Seals, Fills, Opens, RoomsBy, Rooms}
+use Rattle.opening.specs.Steps.{Clears, OpensBy, Seals, Fills, Opens, Rooms}
 use Rattle.opening.proofs.Runs.{seal-writable}
 
 -- memory that is ready has no more rows than there is room for
@@ -169,7 +169,7 @@ module _ (B : ℕ) (big : 4 ≤ B) (noise c : List ℕ) (f h k : ℕ) where
 -- ---- ONE STRETCH AFTER ANOTHER
 module _ (B n h : ℕ) (c₀ : Chip) (st st′ : State) (c′ ix′ : List ℕ) (f′ : ℕ) (os ps : List Op) where
   opens-after : (r : Turn) → Leads B st st′ os → OpensBy B n h c₀ st′ c′ f′ ix′ ps r → OpensBy B n h c₀ st c′ f′ ix′ (os ++ ps) r
-  opens-after (On k) a q = (q .0, q .1, leads-then B a (q .2))
+  opens-after (On k) a q = (q .0, q .1, leads-back B a (q .2))
   opens-after Dark a q = (q .0, leads-cut B a (q .1))
   opens-after Dirty a q = q
 
@@ -210,80 +210,113 @@ module _ (B n h : ℕ) (noise c ix : List ℕ) (f : ℕ) (d : List ℕ) (g : ℕ
   opens-dark x = record { did = did-more (omega arith) (omega arith) (x .did); right = λ lit z. x .right lit (z .ring) (sym (z .here)) }
 
 -- ---- ROOM: the loop. After some openings `left` more are allowed
-module _ (B : ℕ) (big : 4 ≤ B) (n h x : ℕ) (noise c : List ℕ) (f : ℕ) (ix : List ℕ) where
-  pub record Going (d : List ℕ) (g : ℕ) (ix₁ : List ℕ) (k y left : ℕ) : Type 0 where
+
+-- how far a sweep may fill the head after j openings
+abbrev topAfter : ℕ → ℕ → ℕ
+topAfter zero t = t
+topAfter (suc j) t = 14
+
+top-some : (j t : ℕ) → 0 < j → topAfter j t ≡ 14
+top-some zero t l = absurd (omega arith)
+top-some (suc j) t l = refl
+
+module _ (B : ℕ) (big : 4 ≤ B) (n h p l : ℕ) (noise c : List ℕ) (f : ℕ) (ix : List ℕ) where
+  -- the head is k, with y pages; the cursor stands at q, with m looks left
+  pub record Going (d : List ℕ) (g : ℕ) (ix₁ : List ℕ) (k y q m left : ℕ) : Type 0 where
     pub did : Did (B - 2 - left) (16 * (B - 2 - left)) noise c f d g
-    pub right : 0 < f → Ready B (chipOf c) h x (take n ix)
-        → RoomsBy B n h c d g ix₁ (did .ops) (Place k y) × ((K : ℕ) × Moved B (chipOf d) k (B - 2 - left) K)
+    pub right : 0 < f → Ready B (chipOf c) h 15 (take n ix)
+        → (0 < g) × Ready B (chipOf d) k y (take n ix₁) × (mapOf B (chipOf d) ≡ mapOf B (chipOf c))
+        × ((t : ℕ) → Goes B (cursor p l t) (cursor q m (topAfter (B - 2 - left) t)) (resting (chipOf c) h) (resting (chipOf d) k) (did .ops))
+        × ((K : ℕ) × Moved B (chipOf d) k (B - 2 - left) K)
 
   -- none yet
-  pub going-none : Going c f ix h x (B - 2)
+  pub going-none : Going c f ix h 15 p l (B - 2)
   unfolding did-more did-none
   going-none =
       record {
         did = did-more (omega arith) (omega arith) (did-none c f);
         right = λ lit r.
-            let z : 0 ≡ B - 2 - (B - 2) = omega arith in
-            ((lit, r, refl, leads-none B (resting (chipOf c) h)), (0, subst (λ (j : ℕ). Moved B (chipOf c) h j 0) z (moved-start B big (chipOf c) h (few-rows B (chipOf c) h x (take n ix) r))));
+            let z : 0 ≡ B - 2 - (B - 2) = omega arith in (
+              lit,
+              r,
+              refl,
+              λ t. subst (λ (j : ℕ). Goes B (cursor p l t) (cursor p l (topAfter j t)) (resting (chipOf c) h) (resting (chipOf c) h) []) z (goes-none B (cursor p l t) (resting (chipOf c) h)),
+              (0, subst (λ (j : ℕ). Moved B (chipOf c) h j 0) z (moved-start B big (chipOf c) h (few-rows B (chipOf c) h 15 (take n ix) r))),
+            );
       }
 
-  -- the head by another name
-  pub going-at : (d ix₁ : List ℕ) (g k k′ y left : ℕ) → k ≡ k′ → Going d g ix₁ k y left → Going d g ix₁ k′ y left
-  going-at d ix₁ g k k′ y left e a = subst (λ (z : ℕ). Going d g ix₁ z y left) e a
+  -- the head and the cursor by other names
+  pub going-at : (d ix₁ : List ℕ) (g k k′ y q q′ m m′ left : ℕ) → k ≡ k′ → q ≡ q′ → m ≡ m′ → Going d g ix₁ k y q m left → Going d g ix₁ k′ y q′ m′ left
+  going-at d ix₁ g k k′ y q q′ m m′ left e e₁ e₂ a =
+      subst (λ (z : ℕ). Going d g ix₁ z y q′ m′ left) e (subst (λ (z : ℕ). Going d g ix₁ k y z m′ left) e₁ (subst (λ (z : ℕ). Going d g ix₁ k y q z left) e₂ a))
 
   -- one more; or the power went in it
-  module _ (d ix₁ : List ℕ) (g k y left : ℕ) (l : 0 < left) (m : left ≤ B - 2) (full : 15 ≤ y) (a : Going d g ix₁ k y left) where
-    at-full : 0 < f → Ready B (chipOf c) h x (take n ix) → y ≡ 15
-    at-full lit r = let q = a .right lit r in omega (arith, q .0 .1 .here, next-le (chipOf d) k 15)
+  module _ (d ix₁ : List ℕ) (g k y q m left : ℕ) (some : 0 < left) (few : left ≤ B - 2) (full : 15 ≤ y) (a : Going d g ix₁ k y q m left) where
+    at-full : 0 < f → Ready B (chipOf c) h 15 (take n ix) → Ready B (chipOf d) k 15 (take n ix₁)
+    at-full lit r =
+        let z = a .right lit r in
+        subst (λ (i : ℕ). Ready B (chipOf d) k i (take n ix₁)) (let e : y ≡ 15 = omega (arith, z .1 .here, next-le (chipOf d) k 15) in e) (z .1)
 
-    pub going-on : (e ix₂ : List ℕ) (u v : ℕ) → Opens B n k noise d g ix₁ e u ix₂ (On v) → Going e u ix₂ (spare B k) v (left - 1)
+    pub going-on : (e ix₂ : List ℕ) (u v : ℕ) → Opens B n k noise d g ix₁ e u ix₂ (On v) → Going e u ix₂ (spare B k) v (q - 15 + FIRST) (m - (15 - q)) (left - 1)
     unfolding did-more did-then
     going-on e ix₂ u v b =
         record {
           did = did-more (omega arith) (omega arith) (did-then (a .did) (b .did));
           right = λ lit r.
-              let q = a .right lit r in
-              let o = b .right (q .0 .0) (subst (λ (z : ℕ). Ready B (chipOf d) k z (take n ix₁)) (at-full lit r) (q .0 .1)) in
+              let z = a .right lit r in
+              let o = b .right (z .0) (at-full lit r) in
               let j : suc (B - 2 - left) ≡ B - 2 - (left - 1) = omega arith in
-              let w = o .1 .progress big (B - 2 - left) (q .1 .0) (q .1 .1) in (
-                (o .0, o .1 .ready, o .1 .map ∙ q .0 .2, leads-then B (q .0 .3) (o .2)),
-                (w .0, subst (λ (z : ℕ). Moved B (chipOf e) (spare B k) z (w .0)) j (w .1)),
+              let w = o .1 .progress big (B - 2 - left) (z .4 .0) (z .4 .1) in (
+                o .0,
+                o .1 .ready,
+                o .1 .map ∙ z .2,
+                λ t.
+                    subst
+                    (λ (i : ℕ). Goes B (cursor p l t) (cursor (q - 15 + FIRST) (m - (15 - q)) (topAfter i t)) (resting (chipOf c) h) (resting (chipOf e) (spare B k)) (a .did .ops ++ b .did .ops)) j
+                    (goes-then B (z .3 t) (o .2 .then (cursor q m (topAfter (B - 2 - left) t)))),
+                (w .0, subst (λ (i : ℕ). Moved B (chipOf e) (spare B k) i (w .0)) j (w .1)),
               );
         }
 
-    pub going-dark : (e ix₂ : List ℕ) (u : ℕ) → Opens B n k noise d g ix₁ e u ix₂ Dark → Rooms B n h x noise c f ix e u ix₂ Gone
+    pub going-dark : (e ix₂ : List ℕ) (u : ℕ) → Opens B n k noise d g ix₁ e u ix₂ Dark → Rooms B n h p l noise c f ix e u ix₂ Gone
     unfolding did-more did-then
     going-dark e ix₂ u b =
         record {
           did = did-more (omega arith) (omega arith) (did-then (a .did) (b .did));
           right = λ lit r.
-              let q = a .right lit r in
-              let o = b .right (q .0 .0) (subst (λ (z : ℕ). Ready B (chipOf d) k z (take n ix₁)) (at-full lit r) (q .0 .1)) in
-              (o .0, leads-cut B (q .0 .3) (o .1));
+              let z = a .right lit r in
+              let o = b .right (z .0) (at-full lit r) in
+              (o .0, λ t. goes-ends B (z .3 t) (o .1 .short (cursor q m (topAfter (B - 2 - left) t))));
         }
 
-    pub going-dirty : (e ix₂ : List ℕ) (u : ℕ) → Opens B n k noise d g ix₁ e u ix₂ Dirty → Rooms B n h x noise c f ix e u ix₂ Stuck
+    pub going-dirty : (e ix₂ : List ℕ) (u : ℕ) → Opens B n k noise d g ix₁ e u ix₂ Dirty → Rooms B n h p l noise c f ix e u ix₂ Stuck
     going-dirty e ix₂ u b =
-        record {
-          did = did-more (omega arith) (omega arith) (did-then (a .did) (b .did));
-          right = λ lit r.
-              let q = a .right lit r in
-              b .right (q .0 .0) (subst (λ (z : ℕ). Ready B (chipOf d) k z (take n ix₁)) (at-full lit r) (q .0 .1));
-        }
+        record { did = did-more (omega arith) (omega arith) (did-then (a .did) (b .did)); right = λ lit r. b .right (a .right lit r .0) (at-full lit r) }
 
-  module _ (d ix₁ : List ℕ) (g k y left : ℕ) (m : left ≤ B - 2) (a : Going d g ix₁ k y left) where
-    -- there is room
-    pub room-found : Rooms B n h x noise c f ix d g ix₁ (Place k y)
+  module _ (d ix₁ : List ℕ) (g k y q m left : ℕ) (few : left ≤ B - 2) (a : Going d g ix₁ k y q m left) where
+    -- there is room, after an opening at least
+    pub room-found : left < B - 2 → Rooms B n h p l noise c f ix d g ix₁ (Place k y q m)
     unfolding did-more
-    room-found = record { did = did-more (omega arith) (omega arith) (a .did); right = λ lit r. a .right lit r .0 }
-
-    -- there is none after all: that can't be, since no value is moved twice
-    pub room-none : left ≡ 0 → 15 ≤ y → Rooms B n h x noise c f ix d g ix₁ Stuck
-    room-none z full =
+    room-found opened =
         record {
           did = did-more (omega arith) (omega arith) (a .did);
           right = λ lit r.
-              let q = a .right lit r in
-              let w : y ≡ 15 = omega (arith, q .0 .1 .here, next-le (chipOf d) k 15) in
-              omega (arith, moved-few B big (chipOf d) k (B - 2 - left) (q .1 .0) (q .1 .1) (sym (q .0 .1 .here) ∙ w));
+              let z = a .right lit r in (
+                z .0,
+                z .1,
+                z .2,
+                λ t.
+                    subst (λ (i : ℕ). Goes B (cursor p l t) (cursor q m i) (resting (chipOf c) h) (resting (chipOf d) k) (a .did .ops)) (top-some (B - 2 - left) t (omega arith)) (z .3 t),
+              );
+        }
+
+    -- there is none after all: that can't be, since no value is moved twice
+    pub room-none : left ≡ 0 → 15 ≤ y → Rooms B n h p l noise c f ix d g ix₁ Stuck
+    room-none out full =
+        record {
+          did = did-more (omega arith) (omega arith) (a .did);
+          right = λ lit r.
+              let z = a .right lit r in
+              let w : y ≡ 15 = omega (arith, z .1 .here, next-le (chipOf d) k 15) in
+              omega (arith, moved-few B big (chipOf d) k (B - 2 - left) (z .4 .0) (z .4 .1) (sym (z .1 .here) ∙ w));
         }

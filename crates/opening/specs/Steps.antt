@@ -9,7 +9,7 @@ use Rattle.chip.specs.Play.{Op, Did}
 use Rattle.record.specs.Record.{recAt}
 use Rattle.log.specs.Log.{oldest, run, pages}
 use Rattle.log.specs.Ring.{Chip, chipOf, spare, Ring, next, table, mapOf, room, Ready}
-use Rattle.log.specs.Call.{State, resting, Leads, Cut}
+use Rattle.log.specs.Call.{State, resting, cursor, Goes, Ends, Leads, LeadsBack, Cut}
 use Rattle.log.specs.Opening.{Opening, fresh, Moved}
 use Rattle.clean.specs.declared.Turn.{Turn}
 use Rattle.clean.specs.declared.Turn.the-variants.{On, Dark, Dirty}
@@ -38,7 +38,7 @@ pub record Opened (B n h : ℕ) (c₀ : Chip) (c′ ix′ : List ℕ) (k : ℕ) 
 
 -- from the state st on, in an opening that began on the chip c₀
 abbrev pub OpensBy : ℕ → ℕ → ℕ → Chip → State → List ℕ → ℕ → List ℕ → List Op → Turn → Type 0
-OpensBy B n h c₀ st c′ f′ ix′ ops (On k) = (0 < f′) × Opened B n h c₀ c′ ix′ k × Leads B st (resting (chipOf c′) (spare B h)) ops
+OpensBy B n h c₀ st c′ f′ ix′ ops (On k) = (0 < f′) × Opened B n h c₀ c′ ix′ k × LeadsBack B st (resting (chipOf c′) (spare B h)) ops
 OpensBy B n h c₀ st c′ f′ ix′ ops Dark = (f′ ≡ 0) × Cut B st (chipOf c′) ops
 OpensBy B n h c₀ st c′ f′ ix′ ops Dirty = ⊥
 
@@ -59,13 +59,15 @@ pub record Opens (B n h : ℕ) (noise c : List ℕ) (f : ℕ) (ix c′ : List �
   pub did : Did 1 16 noise c f c′ f′
   pub right : 0 < f → Ready B (chipOf c) h 15 (take n ix) → OpensBy B n h (chipOf c) (resting (chipOf c) h) c′ f′ ix′ (did .ops) r
 
--- ---- ROOM: memory is ready, the map is the one of before, and the head has a place; or the power went. There always is room in the end
-abbrev pub RoomsBy : ℕ → ℕ → ℕ → List ℕ → List ℕ → ℕ → List ℕ → List Op → Room → Type 0
-RoomsBy B n h c c′ f′ ix′ ops (Place k x) =
-    (0 < f′) × Ready B (chipOf c′) k x (take n ix′) × (mapOf B (chipOf c′) ≡ mapOf B (chipOf c)) × Leads B (resting (chipOf c) h) (resting (chipOf c′) k) ops
-RoomsBy B n h c c′ f′ ix′ ops Gone = (f′ ≡ 0) × Cut B (resting (chipOf c) h) (chipOf c′) ops
-RoomsBy B n h c c′ f′ ix′ ops Stuck = ⊥
+-- ---- ROOM, where the head is full and the cursor stands at p, with l looks left: memory is ready, the map is the one of before, and the head has a place; or the power
+-- went. There always is room in the end. A sweep after it leaves a place for the record
+abbrev pub RoomsBy : ℕ → ℕ → ℕ → ℕ → ℕ → List ℕ → List ℕ → ℕ → List ℕ → List Op → Room → Type 0
+RoomsBy B n h p l c c′ f′ ix′ ops (Place k x q m) =
+    (0 < f′) × Ready B (chipOf c′) k x (take n ix′) × (mapOf B (chipOf c′) ≡ mapOf B (chipOf c))
+    × ((t : ℕ) → Goes B (cursor p l t) (cursor q m 14) (resting (chipOf c) h) (resting (chipOf c′) k) ops)
+RoomsBy B n h p l c c′ f′ ix′ ops Gone = (f′ ≡ 0) × ((t : ℕ) → Ends B (cursor p l t) (resting (chipOf c) h) (chipOf c′) ops)
+RoomsBy B n h p l c c′ f′ ix′ ops Stuck = ⊥
 
-pub record Rooms (B n h x : ℕ) (noise c : List ℕ) (f : ℕ) (ix c′ : List ℕ) (f′ : ℕ) (ix′ : List ℕ) (r : Room) : Type 0 where
+pub record Rooms (B n h p l : ℕ) (noise c : List ℕ) (f : ℕ) (ix c′ : List ℕ) (f′ : ℕ) (ix′ : List ℕ) (r : Room) : Type 0 where
   pub did : Did (B - 2) (16 * (B - 2)) noise c f c′ f′
-  pub right : 0 < f → Ready B (chipOf c) h x (take n ix) → RoomsBy B n h c c′ f′ ix′ (did .ops) r
+  pub right : 0 < f → Ready B (chipOf c) h 15 (take n ix) → RoomsBy B n h p l c c′ f′ ix′ (did .ops) r

@@ -6,6 +6,7 @@ ghost use mathlib.Core.Path.{_≡_};
 ghost use mathlib.Core.Bool.{true};
 ghost use lib.ListN.{length};
 ghost use Rattle.chip.specs.Chip.{blankAt};
+ghost use Rattle.log.specs.Log.{FIRST};
 ghost use Rattle.log.specs.Ring.{mostBlocks};
 ghost use Rattle.clean.specs.Ends.{Sane, Few};
 ghost use Rattle.clean.specs.Steps.{Turns};
@@ -122,35 +123,59 @@ pub fn open_next(
     Turn::Dark
 }
 
-// Where the next record goes: the head, and the place of its block; or the power went; or a page was not blank.
+// Where the next record goes: the head, and the place of its block; the cursor, and the looks left to this call. Or the power went; or a page was not blank.
 pub enum Room {
-    Place(usize, usize),
+    Place(usize, usize, usize, usize),
     Gone,
     Stuck,
 }
 
-// While the head is full, the next block is opened: B - 2 times at most.
+// The cursor after an opening: the oldest block has left the log, and its places are passed.
+fn back(passed: usize) -> usize
+    ensures { λ r. ⌜ r ≡ passed - 15 + FIRST ⌝ }
+{
+    if passed < log::PLACES {
+        log::FIRST
+    } else {
+        passed - log::RECORDS
+    }
+}
+
+// The looks left after it: those of the oldest block were made by the opening.
+fn fewer(left: usize, passed: usize) -> usize
+    ensures { λ r. ⌜ r ≡ left - (15 - passed) ⌝ }
+{
+    if log::PLACES <= passed {
+        return left;
+    }
+    let made = log::PLACES - passed;
+    if left < made { 0 } else { left - made }
+}
+
+// The head h0 is full: the next block is opened, until one has room; B - 2 times at most.
 pub fn make_room(
     chip: &mut [u8],
     index: &mut [u32],
     n: usize,
     b: usize,
     h0: usize,
-    next0: usize,
+    passed0: usize,
+    left0: usize,
     fuse: &mut u64,
     noise: &[u8],
 ) -> Room
     requires { ⌜ Sane b (now chip) (now index) (now noise) n h0 ⌝ }
-    requires { ⌜ next0 ≤ 15 ⌝ }
-    ensures right { λ r. ⌜ Rooms b n h0 next0 (now (noise .entry)) (now (chip .entry)) (now (fuse .entry)) (now (index .entry)) (now (chip .exit)) (now (fuse .exit)) (now (index .exit)) r ⌝ }
-    ensures within { λ r. ⌜ RoomWithin b r ⌝ }
+    ensures right { λ r. ⌜ Rooms b n h0 passed0 left0 (now (noise .entry)) (now (chip .entry)) (now (fuse .entry)) (now (index .entry)) (now (chip .exit)) (now (fuse .exit)) (now (index .exit)) r ⌝ }
+    ensures within { λ r. ⌜ RoomWithin b passed0 left0 r ⌝ }
 {
     let mut h = h0;
-    let mut next = next0;
-    let mut left = b - 2;
-    while 0 < left {
+    let mut next = log::PLACES;
+    let mut passed = passed0;
+    let mut left = left0;
+    let mut more = b - 2;
+    while 0 < more {
         if next < log::PLACES {
-            return Room::Place(h, next);
+            return Room::Place(h, next, passed, left);
         }
         match open_next(chip, index, n, b, h, fuse, noise) {
             Turn::On(k) => {
@@ -164,10 +189,12 @@ pub fn make_room(
             }
         }
         h = log::block_after(h, 1, b);
-        left -= 1;
+        left = fewer(left, passed);
+        passed = back(passed);
+        more -= 1;
     }
     if next < log::PLACES {
-        return Room::Place(h, next);
+        return Room::Place(h, next, passed, left);
     }
     Room::Stuck
 }

@@ -2,15 +2,15 @@
 use mathlib.Core.Path.{_≡_, refl, sym, ap, _∙_, subst}
 use mathlib.Core.List.{List}
 use mathlib.Core.Bool.{Bool, true, false, not, _&&_}
-use Prim.Native.Nat.{ℕ, _≤_, _<_}
+use Prim.Native.Nat.{ℕ, _+_, _-_, _*_, _%_, _≤_, _<_}
 use native.Mathlib.Omega.{arith}
 use lib.Dec.{eqb, leb}
 use lib.ListN.{length, take, drop, set, getD, length-set}
-use lib.Seq.{length-take-le, drop-set-lt, getD-set-same, getD-set-other}
+use lib.Seq.{length-take-le, take-take, drop-set-lt, getD-set-same, getD-set-other}
 use borrow.Author.Tests.{eq-eqb, ne-eqb, le-leb, lt-leb}
-use borrow.Rule.Slice.PartMut.{putMid}
+use borrow.Rule.Slice.PartMut.{midOf, putMid, same-len-mid, mid-len}
 use Rattle.log.specs.Map.{Map}
-use Rattle.log.specs.Log.{pages}
+use Rattle.log.specs.Log.{pages, U}
 use Rattle.log.specs.Ring.{chipOf, head, Ring, ringTest, tableAt, table, next, room}
 use Rattle.log.specs.Answers.{refuse, done, startAnswer, sizesTest}
 use Rattle.log.specs.Answers.{Answer as Says}
@@ -18,36 +18,49 @@ use Rattle.log.proofs.RingLaws.{test-ring}
 use Rattle.log.proofs.Index.{pages-length}
 use Rattle.lent.specs.Area.{blocksOf, Sized, mapIn, mark, lentToStart, Holds}
 use Rattle.start.specs.Started.{Starts}
+use Rattle.start.specs.Least.{leastOf}
+use Rattle.start.proofs.Cursor.{least-take}
 use Rattle.start.specs.Replay.{ReadyFor, ReadiesBy, Readies}
-use Rattle.lent.proofs.Area.{downed, downed-1, downed-2, downed-3, downed-16, back-long, back-index}
+use Rattle.lent.proofs.Area.{downed, downed-1, downed-2, downed-3, downed-4, downed-16, back-long, back-index}
 use Rattle.lent.proofs.Numbers.{sizes-hold}
 use Rattle.lent.proofs.Held.{map-rows as map-table}
 use Rattle.lent.specs.declared.Answer.{Answer}
 use Rattle.lent.specs.declared.Answer.the-variants.{Done, Refused}
 
--- ---- THE AREA AFTER THE LAST STEP: the index was lent, three words were put down, and the mark
-abbrev pub noted : List ℕ → List ℕ → ℕ → ℕ → ℕ → ℕ → List ℕ
-noted w ix k h x n = set (downed (putMid 16 k w ix) h x n) 0 1
+-- ---- THE AREA AFTER THE LAST STEP: the index was lent, four words were put down, and the mark
+abbrev pub noted : List ℕ → List ℕ → ℕ → ℕ → ℕ → ℕ → ℕ → List ℕ
+noted w ix k h x n p = set (downed (putMid 16 k w ix) h x n p) 0 1
 
-module _ (w ix : List ℕ) (k h x n : ℕ) (l : 16 ≤ length w) where
+module _ (w ix : List ℕ) (k h x n p : ℕ) (l : 16 ≤ length w) where
   abbrev filled : List ℕ
   filled = putMid 16 k w ix
 
-  word-0 : getD (noted w ix k h x n) 0 0 ≡ 1
-  word-0 = getD-set-same (downed filled h x n) 0 1 0 (simp length-set (omega (arith, back-long w ix k l)))
+  word-0 : getD (noted w ix k h x n p) 0 0 ≡ 1
+  word-0 = getD-set-same (downed filled h x n p) 0 1 0 (simp length-set (omega (arith, back-long w ix k l)))
 
-  word-1 : getD (noted w ix k h x n) 1 0 ≡ h
-  word-1 = getD-set-other (downed filled h x n) 0 1 1 0 (λ e. omega arith) ∙ downed-1 filled h x n (back-long w ix k l)
+  word-1 : getD (noted w ix k h x n p) 1 0 ≡ h
+  word-1 = getD-set-other (downed filled h x n p) 0 1 1 0 (λ e. omega arith) ∙ downed-1 filled h x n p (back-long w ix k l)
 
-  word-2 : getD (noted w ix k h x n) 2 0 ≡ x
-  word-2 = getD-set-other (downed filled h x n) 0 2 1 0 (λ e. omega arith) ∙ downed-2 filled h x n (back-long w ix k l)
+  word-2 : getD (noted w ix k h x n p) 2 0 ≡ x
+  word-2 = getD-set-other (downed filled h x n p) 0 2 1 0 (λ e. omega arith) ∙ downed-2 filled h x n p (back-long w ix k l)
 
-  word-3 : getD (noted w ix k h x n) 3 0 ≡ n
-  word-3 = getD-set-other (downed filled h x n) 0 3 1 0 (λ e. omega arith) ∙ downed-3 filled h x n (back-long w ix k l)
+  word-3 : getD (noted w ix k h x n p) 3 0 ≡ n
+  word-3 = getD-set-other (downed filled h x n p) 0 3 1 0 (λ e. omega arith) ∙ downed-3 filled h x n p (back-long w ix k l)
+
+  word-4 : getD (noted w ix k h x n p) 4 0 ≡ p
+  word-4 = getD-set-other (downed filled h x n p) 0 4 1 0 (λ e. omega arith) ∙ downed-4 filled h x n p (back-long w ix k l)
 
   -- the words from 16 on begin with the index
-  words-index : n ≤ length ix → take n (drop 16 (noted w ix k h x n)) ≡ take n ix
-  words-index m = ap (take n) (drop-set-lt 16 (downed filled h x n) 0 1 (omega arith) ∙ downed-16 filled h x n) ∙ back-index w ix k l n m
+  words-index : n ≤ length ix → take n (drop 16 (noted w ix k h x n p)) ≡ take n ix
+  words-index m = ap (take n) (drop-set-lt 16 (downed filled h x n p) 0 1 (omega arith) ∙ downed-16 filled h x n p) ∙ back-index w ix k l n m
+
+-- lent again, they begin with it too
+pub lent-part : (w ix : List ℕ) → 16 ≤ length w → (n : ℕ) → n ≤ length ix → length ix ≡ length w - 16
+    → take n (midOf 16 (length (putMid 16 (length w - 16) w ix) - 16) (putMid 16 (length w - 16) w ix)) ≡ take n ix
+lent-part w ix l n m e =
+    let v : List ℕ = putMid 16 (length w - 16) w ix in
+    let q : length v ≡ length w = same-len-mid 16 (length w - 16) w ix (e ∙ sym (mid-len 16 (length w) w (omega arith))) in
+    take-take n (length v - 16) (drop 16 v) (omega arith) ∙ back-index w ix (length w - 16) l n m
 
 -- ---- THE LAST STEP OF START
 module _ (c : List ℕ) (b h n : ℕ) (ix : List ℕ) (same : b ≡ blocksOf c) (m : n ≤ length ix) (rows : take n ix ≡ pages b (tableAt b (chipOf c) h)) where
@@ -58,22 +71,26 @@ module _ (c : List ℕ) (b h n : ℕ) (ix : List ℕ) (same : b ≡ blocksOf c) 
   rows-count = sym (pages-length (blocksOf c) (tableAt (blocksOf c) (chipOf c) h)) ∙ ap length (sym rows-here) ∙ length-take-le n ix m
 
   -- the area is ready: the words that were put down are the head, its next place and the number of keys
-  pub readies-done : (w w′ : List ℕ) (k g x i : ℕ) → 16 ≤ length w → w′ ≡ noted w ix k g x i → g ≡ h → x ≡ next (chipOf c) h → i ≡ n → n ≤ room b
+  pub readies-done : (w w′ : List ℕ) (k g x i p : ℕ) → 16 ≤ length w → w′ ≡ noted w ix k g x i p → g ≡ h → x ≡ next (chipOf c) h → i ≡ n → n ≤ room b
+      → (t e : ℕ) (iy : List ℕ) → t ≡ (h + 2) % b → e ≡ U * (b - 2) + next (chipOf c) h → take n iy ≡ take n ix → p ≡ leastOf t b e iy n
       → Readies c h w′ (Done 0)
-  readies-done w w′ k g x i l q eg ex ei few =
-      let p : getD w′ 3 0 ≡ i = ap (λ (v : List ℕ). getD v 3 0) q ∙ word-3 w ix k g x i l in
+  readies-done w w′ k g x i p l q eg ex ei few t e iy et ee same-index least =
+      let z : getD w′ 3 0 ≡ i = ap (λ (v : List ℕ). getD v 3 0) q ∙ word-3 w ix k g x i p l in
       record {
         ends = (
           refl,
           record {
-            marked = ap (λ (v : List ℕ). getD v 0 0) q ∙ word-0 w ix k g x i l;
-            head = ap (λ (v : List ℕ). getD v 1 0) q ∙ word-1 w ix k g x i l ∙ eg;
-            place = ap (λ (v : List ℕ). getD v 2 0) q ∙ word-2 w ix k g x i l ∙ ex;
-            few = omega (arith, p, same);
+            marked = ap (λ (v : List ℕ). getD v 0 0) q ∙ word-0 w ix k g x i p l;
+            head = ap (λ (v : List ℕ). getD v 1 0) q ∙ word-1 w ix k g x i p l ∙ eg;
+            place = ap (λ (v : List ℕ). getD v 2 0) q ∙ word-2 w ix k g x i p l ∙ ex;
+            few = omega (arith, z, same);
             rows =
-                ap (λ (j : ℕ). take j (drop 16 w′)) p ∙ ap (λ (v : List ℕ). take i (drop 16 v)) q ∙ words-index w ix k g x i l (omega arith)
+                ap (λ (j : ℕ). take j (drop 16 w′)) z ∙ ap (λ (v : List ℕ). take i (drop 16 v)) q ∙ words-index w ix k g x i p l (omega arith)
                 ∙ ap (λ (j : ℕ). take j ix) ei ∙ rows-here;
-            count = rows-count ∙ sym ei ∙ sym p;
+            count = rows-count ∙ sym ei ∙ sym z;
+            cursor =
+                ap (λ (v : List ℕ). getD v 4 0) q ∙ word-4 w ix k g x i p l ∙ least ∙ least-take t b e iy n _ (same-index ∙ rows-here)
+                ∙ rw (et, ee, same) refl ∙ ap (leastOf _ _ _ _) (sym ei ∙ sym z);
           },
         );
       }

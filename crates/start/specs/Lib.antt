@@ -1,2 +1,3 @@
 pub mod Started
+pub mod Least
 pub mod Replay

@@ -10,6 +10,7 @@ ghost use Rattle.log.specs.Log.{pages};
 ghost use Rattle.log.specs.Ring.{chipOf, tableAt, mostBlocks};
 ghost use Rattle.lent.specs.Area.{blocksOf, Sized};
 ghost use Rattle.ring.specs.Seals.{Begins};
+ghost use Rattle.start.specs.Least.{blocksAfter, logPlaceOf, lesser, leastOf};
 ghost use Rattle.start.specs.Replay.{Replays, ReplaysTo, Readies};
 ghost use Rattle.start.specs.Started.{StartEnds};
 
@@ -64,6 +65,44 @@ fn replay(chip: &[u8], index: &mut [u32], b: usize, h: usize, begin: usize) -> u
     n
 }
 
+// How many blocks after block t block x comes, in a ring of b.
+fn blocks_after(t: u32, b: u32, x: u32) -> u32
+    requires { ⌜ (t < b) × (b ≤ mostBlocks) ⌝ }
+    ensures right { λ r. ⌜ r ≡ blocksAfter t b x ⌝ }
+    ensures small { λ r. ⌜ r ≤ x + b ⌝ }
+{
+    if x < t { x + b - t } else { x - t }
+}
+
+// The log place of page q, where block t is the oldest.
+fn log_place(t: u32, b: u32, q: u32) -> u32
+    requires { ⌜ (t < b) × (b ≤ mostBlocks) ⌝ }
+    ensures { λ r. ⌜ r ≡ logPlaceOf t b q ⌝ }
+{
+    15 * blocks_after(t, b, q / 16) + q % 16
+}
+
+// The lesser of two numbers.
+fn lesser(x: u32, y: u32) -> u32
+    ensures { λ r. ⌜ r ≡ lesser x y ⌝ }
+{
+    if y < x { y } else { x }
+}
+
+// The least log place of the first n entries; `end` if there is none.
+fn least(index: &[u32], n: usize, t: u32, b: u32, end: u32) -> u32
+    requires { ⌜ (n ≤ length (now index)) × (t < b) × (b ≤ mostBlocks) ⌝ }
+    ensures { λ r. ⌜ r ≡ leastOf t b end (now (index .entry)) n ⌝ }
+{
+    let mut p = end;
+    let mut i = 0;
+    while i < n {
+        p = lesser(p, log_place(t, b, index[i]));
+        i += 1;
+    }
+    p
+}
+
 // The area is made ready for the head h.
 fn make_ready(chip: &[u8], work: &mut [u32], b: usize, h: usize, begin: usize) -> Answer
     requires { ⌜ Sized (now chip) (now work) × (b ≡ blocksOf (now chip)) × (h < b) × (getD (now work) 0 0 ≡ 0) ⌝ }
@@ -75,7 +114,10 @@ fn make_ready(chip: &[u8], work: &mut [u32], b: usize, h: usize, begin: usize) -
     if log::room(b) < n {
         return Answer::Refused(8);
     }
-    lent::note_down(work, h as u32, next as u32, n as u32);
+    let oldest = log::block_after(h, 2, b);
+    let end = log::RECORDS * (b - 2) + next;
+    let passed = least(&work[16..], n, oldest as u32, b as u32, end as u32);
+    lent::note_down(work, h as u32, next as u32, n as u32, passed);
     work[0] = 1;
     Answer::Done(0)
 }

@@ -16,8 +16,11 @@ cast-note-down-2 c = let v = subst Words (c .before .before .change .given .1) (
 cast-note-down-3 : tie.Need-cast-note-down-3
 cast-note-down-3 c = let v = subst Words (c .before .before .change .given .1) (c .before .before .before .before .before .pre .1) in omega (arith, v .2)
 
+cast-note-down-4 : tie.Need-cast-note-down-4
+cast-note-down-4 c = let v = subst Words (c .before .before .change .given .1) (c .before .before .before .before .before .pre .1) in omega (arith, v .3)
+
 returns : tie.Need-returns
-returns c = settles-made _ _ _ _ _ _ _ _ _ (c .before .before .before .before .before .change .given .1) (c .before .before .note-down .ensures) (omega arith) (omega arith) (omega arith)
+returns c = settles-made _ _ _ _ _ _ _ _ _ _ _ (c .before .before .before .before .before .change .given .1) (c .before .before .note-down .ensures) (omega arith) (omega arith) (omega arith) (omega arith)
 
 returns-2 : tie.Need-returns-2
 returns-2 c = settles-denied _ _ _ (c .before .change2 .given .1)
@@ -36,6 +39,7 @@ settle-spec =
     cast-note-down
     cast-note-down-2
     cast-note-down-3
+    cast-note-down-4
     (λ c κs. search needs)
     (λ c. search needs)
     (λ c. search needs)
