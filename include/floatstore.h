@@ -42,8 +42,9 @@
  *
  * WHAT A CALL COSTS AT MOST. Put and delete 1 erase and 10 page writes, whatever the number B of blocks; and one page write more for
  * each power failure since the cleaning, of which each call does a little, was last up to date, while those are at most 5. After
- * more than 5, or at first on a chip that an earlier version wrote, until it has caught up: B - 2 erases and 16(B-2) + 15 page
- * writes. Start, get, count and next none; format B erases. Over a life with n puts and deletes and q power failures: n/6 + q
+ * more than 5, or at first on a chip that an earlier version wrote, until it has caught up: 8(B-2)/15 + 1 erases and 8(B-2) + B page
+ * writes. On an area that no start made ready, whatever is in it: B - 2 erases and 16 B - 15 page writes. Start, get, count and next
+ * none; format B erases. Over a life with n puts and deletes and q power failures, of a chip that was blank at first: n/6 + q
  * erases, and any two blocks' erases differ by at most 1 + q.
  */
 #ifndef FLOATSTORE_H

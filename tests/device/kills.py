@@ -139,18 +139,25 @@ class Device:
             self.judge.wrong("byte", hex(at), "is programmed, and isn't blank or not in the store")
         self.bytes[at] &= byte
         self.last = at
+        self.touch([at // 256])
 
     def erase(self, at, size):
         if size != 4096 or at % 4096 or not BASE <= at < BASE + 4096 * BLOCKS:
             self.judge.wrong(size, "bytes are erased at", hex(at))
         self.bytes[at:at + size] = b"\xff" * size
         self.last = 255
+        self.touch(list(range(at // 256, (at + size) // 256)))
+
+    def touch(self, pages):
+        """The pages of the last operations: the emulator writes its image beside its work, and a kill may come before they are in it. A put programs ten at most"""
+        if self.recent[-1:] != [pages]:
+            self.recent = self.recent[-9:] + [pages]
 
     def follow(self, log, image, killed):
         """One run of the emulator, by its log. The image is brought up to it."""
         if self.bytes is None:
             self.bytes = bytearray(b"\xff" * os.path.getsize(image))
-        seen, self.last = 0, 255
+        seen, self.last, self.recent = 0, 255, []
         with open(log, errors="replace") as lines:
             for line in lines:
                 programmed, byte, erased, size, other = self.LINE.fullmatch(line.rstrip("\n")).groups()
@@ -173,7 +180,7 @@ class Device:
         with open(image, "r+b") as f:
             held = f.read()
             behind = [p for p in range(len(held) // 256) if held[256 * p:256 * p + 256] != self.bytes[256 * p:256 * p + 256]] if held != self.bytes else []
-            if behind not in ([], [page]):
+            if not set(behind) <= set(sum(self.recent, [])):
                 self.judge.wrong("the image lacks pages that the device has:", behind[:5])
             f.seek(0)
             f.write(self.bytes)

@@ -34,11 +34,12 @@ use Rattle.index.specs.Answers.{FindsBy, Finds, putAt}
 use Rattle.index.specs.declared.Found.{Found}
 use Rattle.index.specs.declared.Found.the-variants.{At, Missing}
 use Rattle.index.proofs.Rows.{table-keys, table-ordered, table-put, table-take}
+use Rattle.tidy.specs.Steps.{Places}
 use Rattle.opening.specs.declared.Room.the-variants.{Place, Gone, Stuck}
 use Rattle.append.specs.declared.Change.{Change}
 use Rattle.append.specs.declared.Change.the-variants.{Made, Denied, Lost, Broken}
 use Rattle.lent.specs.Tested.{number}
-use Rattle.append.specs.Steps.{entered, isMissing, denial, denialIn, Places, AppendsBy, Appends, AltersBy, Alters}
+use Rattle.append.specs.Steps.{entered, isMissing, denial, denialIn, AppendsBy, Appends, AltersBy, Alters}
 use Rattle.append.proofs.Runs.{record-writable}
 use Rattle.index.proofs.Values.{found-value, missed-value}
 use Rattle.lent.proofs.Held.{map-rows}

@@ -9,7 +9,7 @@ use lib.ListN.{length, take}
 use Rattle.chip.specs.Play.{Op, Did}
 use Rattle.record.specs.Record.{mostValue, Rec, recordOf}
 use Rattle.log.specs.Answers.{missing}
-use Rattle.log.specs.Call.{resting, Cursor, cursor, begin, Swept, Trace, Goes, Ends}
+use Rattle.log.specs.Call.{resting, Cursor, cursor, begin, Swept, Trace}
 use Rattle.log.specs.Key.{Key}
 use Rattle.log.specs.Map.{Map, lookup}
 use Rattle.log.specs.Ring.{chipOf, room, mapOf, Ready}
@@ -18,8 +18,6 @@ use Rattle.index.specs.Index.{keysOf}
 use Rattle.index.specs.declared.Found.{Found}
 use Rattle.index.specs.declared.Found.the-variants.{At, Missing}
 use Rattle.lent.specs.Tested.{number}
-use Rattle.opening.specs.declared.Room.{Room}
-use Rattle.opening.specs.declared.Room.the-variants.{Place, Gone, Stuck}
 use Rattle.append.specs.declared.Change.{Change}
 use Rattle.append.specs.declared.Change.the-variants.{Made, Denied, Lost, Broken}
 
@@ -75,21 +73,8 @@ abbrev pub entered : Bool → Found → ℕ → List ℕ → List ℕ
 entered true f p ps = takeOut f ps
 entered false f p ps = putAt f p ps
 
--- ---- A PLACE FOR THE RECORD, from the cursor u on: memory is ready, the map is the one of before, the head has a place, and no look is left; or the power went
-abbrev pub PlacesBy : ℕ → ℕ → ℕ → Cursor → List ℕ → List ℕ → ℕ → List ℕ → List Op → Room → Type 0
-PlacesBy B n h u c c′ f′ ix′ ops (Place k y p l) =
-    (0 < f′) × Ready B (chipOf c′) k y (take n ix′) × (mapOf B (chipOf c′) ≡ mapOf B (chipOf c))
-    × ((t : ℕ) × Swept B (cursor p l t) y × Goes B u (cursor p l t) (resting (chipOf c) h) (resting (chipOf c′) k) ops)
-PlacesBy B n h u c c′ f′ ix′ ops Gone = (f′ ≡ 0) × Ends B u (resting (chipOf c) h) (chipOf c′) ops
-PlacesBy B n h u c c′ f′ ix′ ops Stuck = ⊥
-
--- where the head has y pages, with at most e erases and w writes
-pub record Places (e w B n h y : ℕ) (u : Cursor) (noise c : List ℕ) (f : ℕ) (ix c′ : List ℕ) (f′ : ℕ) (ix′ : List ℕ) (r : Room) : Type 0 where
-  pub did : Did e w noise c f c′ f′
-  pub right : 0 < f → Ready B (chipOf c) h y (take n ix) → PlacesBy B n h u c c′ f′ ix′ (did .ops) r
-
--- ---- THE APPEND, where the cursor is u and no look is left: memory is ready for the new chip, and the call has come to its end; or the power went. No other page than
--- the one that is blank is written
+-- ---- THE APPEND, where the cursor is u and no look is left: memory is ready for the new chip, and the call has come to its end; or the power went. No other
+-- page than the one that is blank is written
 abbrev pub AppendsBy : ℕ → Rec → Cursor → ℕ → List ℕ → List ℕ → ℕ → List ℕ → List Op → Change → Type 0
 AppendsBy B x u h c c′ f′ ix′ ops (Made k y m p) =
     (0 < f′) × Ready B (chipOf c′) k y (take m ix′) × (m ≤ room B) × Trace B x u (resting (chipOf c) h) (chipOf c′) p ops true

@@ -2,16 +2,13 @@
 // What it answers is said in specs/Steps.antt; put and delete, and what they test first, are in the crate `change`.
 use index::Found;
 use opening::Room;
-use sweep::Swept;
 ghost use mathlib.Core.Path.{_≡_};
-ghost use Prim.Native.Nat.{_+_, _-_, _*_, _≤_, _<_};
+ghost use Prim.Native.Nat.{_+_, _*_, _≤_, _<_};
 ghost use lib.ListN.{length, take};
 ghost use Rattle.log.specs.Ring.{room, mostBlocks};
 ghost use Rattle.index.specs.Answers.{Within};
-ghost use Rattle.log.specs.Call.{cursor, begin};
 ghost use Rattle.clean.specs.Ends.{Sane};
-ghost use Rattle.opening.specs.Ends.{RoomWithin};
-ghost use Rattle.append.specs.Steps.{Keyed, ChangeWithin, Undenied, ChangeKept, isMissing, denial, entered, Places, Appends, Alters};
+ghost use Rattle.append.specs.Steps.{Keyed, ChangeWithin, Undenied, ChangeKept, isMissing, denial, entered, Appends, Alters};
 
 // How a change ended: done, with the head, the next place, the number of keys and the cursor; a refusal; the power went; a page was not blank.
 pub enum Change {
@@ -20,9 +17,6 @@ pub enum Change {
     Lost,
     Broken,
 }
-
-// How many places a call looks at.
-const LOOKS: usize = 8;
 
 // The index is brought up to the record on page p: a value is put in, and of a note its key is taken out. Answers the number of keys.
 fn enter(index: &mut [u32], n: usize, found: Found, note: bool, p: usize) -> usize
@@ -99,93 +93,6 @@ fn denied(found: Found, note: bool, n: usize, b: usize) -> u32
     0
 }
 
-// The looks that are left after an opening.
-fn sweep_on(
-    chip: &mut [u8],
-    index: &mut [u32],
-    n: usize,
-    b: usize,
-    h: usize,
-    next: usize,
-    passed: usize,
-    left: usize,
-    fuse: &mut u64,
-    noise: &[u8],
-) -> Room
-    requires { ⌜ Sane b (now chip) (now index) (now noise) n h × (next < 15) ⌝ }
-    ensures right { λ r. ⌜ Places 0 left b n h next (cursor passed left 14) (now (noise .entry)) (now (chip .entry)) (now (fuse .entry)) (now (index .entry)) (now (chip .exit)) (now (fuse .exit)) (now (index .exit)) r ⌝ }
-    ensures within { λ r. ⌜ RoomWithin b passed left r ⌝ }
-{
-    match sweep::sweep(chip, index, n, b, h, next, passed, left, 14, fuse, noise) {
-        Swept::To(x, p, l) => Room::Place(h, x, p, l),
-        Swept::Dark => Room::Gone,
-        Swept::Dirty => Room::Stuck,
-    }
-}
-
-// The head is full: room is made, and the rest of the looks; a place is left for the record.
-fn make_more(
-    chip: &mut [u8],
-    index: &mut [u32],
-    n: usize,
-    b: usize,
-    h: usize,
-    passed: usize,
-    left: usize,
-    fuse: &mut u64,
-    noise: &[u8],
-) -> Room
-    requires { ⌜ Sane b (now chip) (now index) (now noise) n h ⌝ }
-    ensures right { λ r. ⌜ Places (b - 2) (16 * (b - 2) + left) b n h 15 (cursor passed left 15) (now (noise .entry)) (now (chip .entry)) (now (fuse .entry)) (now (index .entry)) (now (chip .exit)) (now (fuse .exit)) (now (index .exit)) r ⌝ }
-    ensures within { λ r. ⌜ RoomWithin b passed left r ⌝ }
-{
-    match opening::make_room(chip, index, n, b, h, passed, left, fuse, noise) {
-        Room::Place(h2, x, p, l) => sweep_on(chip, index, n, b, h2, x, p, l, fuse, noise),
-        Room::Gone => Room::Gone,
-        Room::Stuck => Room::Stuck,
-    }
-}
-
-// A place for the record: first up to 8 places behind the cursor are looked at, and what is live there is carried to the head.
-fn make_place(
-    chip: &mut [u8],
-    index: &mut [u32],
-    n: usize,
-    b: usize,
-    h: usize,
-    next: usize,
-    passed: usize,
-    fuse: &mut u64,
-    noise: &[u8],
-) -> Room
-    requires { ⌜ Sane b (now chip) (now index) (now noise) n h × (next ≤ 15) ⌝ }
-    ensures right { λ r. ⌜ Places (b - 2) (16 * (b - 2) + 16) b n h next (begin passed) (now (noise .entry)) (now (chip .entry)) (now (fuse .entry)) (now (index .entry)) (now (chip .exit)) (now (fuse .exit)) (now (index .exit)) r ⌝ }
-    ensures within { λ r. ⌜ RoomWithin b passed 8 r ⌝ }
-{
-    match sweep::sweep(
-        chip,
-        index,
-        n,
-        b,
-        h,
-        next,
-        passed,
-        LOOKS,
-        log::PLACES,
-        fuse,
-        noise,
-    ) {
-        Swept::To(x, p, l) => {
-            if x < log::PLACES {
-                return Room::Place(h, x, p, l);
-            }
-            make_more(chip, index, n, b, h, p, l, fuse, noise)
-        }
-        Swept::Dark => Room::Gone,
-        Swept::Dirty => Room::Stuck,
-    }
-}
-
 // A value is put, or a note of a deletion.
 pub fn make_change(
     chip: &mut [u8],
@@ -212,7 +119,7 @@ pub fn make_change(
     if 0 < k {
         return Change::Denied(k);
     }
-    match make_place(chip, index, n, b, h, next, passed, fuse, noise) {
+    match tidy::make_place(chip, index, n, b, h, next, passed, fuse, noise) {
         Room::Place(h2, next2, passed2, _) => append(
             chip,
             index,

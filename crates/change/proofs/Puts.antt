@@ -16,6 +16,9 @@ use Rattle.record.specs.Record.{mostValue, Rec, recordOf}
 use Rattle.log.specs.Map.{Map, lookup, alter}
 use Rattle.log.specs.Ring.{chipOf, head, Ring, mapOf, room, mostBlocks, Ready}
 use Rattle.log.specs.Call.{resting, begin, Trace, After}
+use Rattle.log.specs.Timely.{Timely}
+use Rattle.log.proofs.Timely.{timely-more}
+use Rattle.log.proofs.TimelyCall.{call-timely}
 use Rattle.log.specs.Answers.{missing, printed, refuse, lent, keyed, refused, done, putAnswer, deleteAnswer}
 use Rattle.log.specs.Answers.{Answer as Says}
 use Rattle.log.proofs.RingLaws.{ring-head}
@@ -77,6 +80,14 @@ module _ (c : List ℕ) (big : 4 ≤ blocksOf c) (note : Bool) (key value noise 
         let s = call-short B big x (begin p) (chipOf c) (chipOf c′) h q (d .ops) b t rest in
         (s .0, omega (arith, s .1))
 
+    -- and where the cursor is in time
+    in-time : (b : Bool) (p s : ℕ) → Trace B x (begin p) (resting (chipOf c) h) (chipOf c′) s (d .ops) b → length (mapOf B (chipOf c′)) ≤ room B
+        → (q : ℕ) → q ≤ 5 → Timely B (chipOf c) (head B (chipOf c)) p (8 * (1 + q)) → (erases (d .ops) ≤ 1) × (writes (d .ops) ≤ 10 + q)
+    in-time b p s t fits q five y =
+        let z : Timely B (chipOf c) h p (8 * (1 + q)) = subst (λ (k : ℕ). Timely B (chipOf c) k p (8 * (1 + q))) (ring-head B big (chipOf c) h (r .ring)) y in
+        call-timely B big x (Unit {0}) q (λ _. five) (chipOf c) (chipOf c′) h p s (d .ops) b t rest (omega (arith, fits, map-rows B (chipOf c′))) (z .behind)
+        (λ _. timely-more B big (chipOf c) h p (8 * (1 + q)) (8 * q + 8) (omega arith) z) .1 tt
+
     at-head : (b : Bool) (p q : ℕ) (l : List Op) → Trace B x (begin p) (resting (chipOf c) h) (chipOf c′) q l b
         → Trace B x (begin p) (resting (chipOf c) (head B (chipOf c))) (chipOf c′) q l b
     at-head b p q l t = subst (λ (k : ℕ). Trace B x (begin p) (resting (chipOf c) k) (chipOf c′) q l b) (sym (ring-head B big (chipOf c) h (r .ring))) t
@@ -96,6 +107,7 @@ module _ (c : List ℕ) (big : 4 ≤ blocksOf c) (note : Bool) (key value noise 
         record {
           few-erases = short true p s t .1;
           few-writes = short true p s t .0;
+          short = in-time true p s t (omega (arith, few-after, ap length e));
           trace = at-head true p s (d .ops) t;
           map = subst (λ (b : ℕ). mapOf b (chipOf c′) ≡ alter key (x .what) m) (same-blocks (did-length d)) e;
           store = a-store (did-length d) (q .0) (omega (arith, few-after, ap length e));
@@ -108,6 +120,7 @@ module _ (c : List ℕ) (big : 4 ≤ blocksOf c) (note : Bool) (key value noise 
         record {
           few-erases = short false p s t .1;
           few-writes = short false p s t .0;
+          short = in-time false p s t (few-which (which (q .1)));
           trace = at-head false p s (d .ops) t;
           map = subst (λ (b : ℕ). After false m (alter key (x .what) m) (mapOf b (chipOf c′))) (same-blocks (did-length d)) (which (q .1));
           store = a-store (did-length d) (q .0) (few-which (which (q .1)));
@@ -141,7 +154,7 @@ module _ (c w : List ℕ) (ok : Checked c w) (note : Bool) (key value noise : Li
   answer-done z = ap (λ (i : ℕ). due i (done (alter key (recordOf note key value .what) (mapIn c)))) (sym z)
 
   module _ (c′ ix′ : List ℕ) (f′ : ℕ) where
-    wider : Did (blocksOf c - 2) (16 * (blocksOf c - 2) + 17) noise c f c′ f′ → Did (blocksOf c) (16 * blocksOf c) noise c f c′ f′
+    wider : Did (blocksOf c - 2) (16 * (blocksOf c - 2) + 17) noise c f c′ f′ → Did (blocksOf c - 2) (16 * blocksOf c - 15) noise c f c′ f′
     wider d = did-more (omega arith) (omega (arith, ok .sized .some-blocks)) d
 
     -- made: the words are put down

@@ -2,7 +2,7 @@
 use mathlib.Core.Bool.{Bool, not}
 use mathlib.Core.List.{List}
 use mathlib.Core.Path.{_≡_}
-use Prim.Native.Nat.{ℕ, _+_, _<_, _*_}
+use Prim.Native.Nat.{ℕ, _+_, _-_, _<_, _*_}
 use lib.Dec.{leb}
 use lib.ListN.{length, set}
 use Rattle.chip.specs.Play.{Did}
@@ -41,7 +41,7 @@ pub record Settles (w w′ : List ℕ) (change : Change) (r : Answer) : Type 0 w
 
 -- ---- THE BODY OF THE CALL, once all is tested
 pub record Runs (note : Bool) (key value noise c : List ℕ) (f : ℕ) (w c′ : List ℕ) (f′ : ℕ) (w′ : List ℕ) (r : Answer) : Type 0 where
-  pub did : Did (blocksOf c) (16 * blocksOf c) noise c f c′ f′
+  pub did : Did (blocksOf c - 2) (16 * blocksOf c - 15) noise c f c′ f′
   pub refused : RefusedKept c f w c′ f′ w′ r
   pub right : Kept c f w → 0 < f → mark w ≡ 1
       → Changes (recordOf note key value) c f w c′ f′ w′ (did .ops)

@@ -47,7 +47,7 @@ pub tends-kept : (c : List ℕ) (f : ℕ) (w : List ℕ) → Tends c f w → Kep
 tends-kept c f w t = record { holds = λ _ l _. t .lit l .1 }
 
 -- and what the code finds in the area is what the phase says
-lent-on : {A : Type 0} (c : List ℕ) (f : ℕ) (w : List ℕ) (a : Says A) → Tends c f w → lent (lentOf c f w) a ≡ lent (lentOn c f w) a
+pub lent-on : {A : Type 0} (c : List ℕ) (f : ℕ) (w : List ℕ) (a : Says A) → Tends c f w → lent (lentOf c f w) a ≡ lent (lentOn c f w) a
 unfolding refuse
 lent-on c f w a t = go f refl
   where
@@ -76,12 +76,19 @@ module _ (B : ℕ) (big : 4 ≤ B) where
     pub tended : Tended s c
     pub worn : F → Worn B n q ops (chipOf c)
 
-  blocks-are : (c : List ℕ) → length c ≡ 4096 * B → blocksOf c ≡ B
+  pub blocks-are : (c : List ℕ) → length c ≡ 4096 * B → blocksOf c ≡ B
   blocks-are c e = omega arith
+
+  -- a store has no more rows than there is room for
+  pub few-table : (c : List ℕ) → Store c → length c ≡ 4096 * B → length (table B (chipOf c)) ≤ room B
+  few-table c s e =
+      let b : blocksOf c ≡ B = blocks-are c e in
+      let k : length (mapOf B (chipOf c)) ≤ room B = subst (λ (i : ℕ). length (mapOf i (chipOf c)) ≤ room i) b (s .few) in
+      omega (arith, k, map-rows B (chipOf c))
 
   -- ---- counting
 
-  none-failed : (f : ℕ) → failed f f ≡ 0
+  pub none-failed : (f : ℕ) → failed f f ≡ 0
   none-failed zero = refl
   none-failed (suc f) = rw (ne-eqb (suc f) 0 (λ e. omega arith)) (go (leb 1 (suc f)) _)
     where
@@ -101,12 +108,6 @@ module _ (B : ℕ) (big : 4 ≤ B) where
 
   -- ---- A PUT OR A DELETE
   module _ (F : Type 0) (x : Rec) (noise c : List ℕ) (f : ℕ) (w c′ : List ℕ) (f′ : ℕ) (w′ : List ℕ) (n q : ℕ) (ops : List Op) where
-    few-table : (d : List ℕ) → Store d → length d ≡ 4096 * B → length (table B (chipOf d)) ≤ room B
-    few-table d s e =
-        let b : blocksOf d ≡ B = blocks-are d e in
-        let k : length (mapOf B (chipOf d)) ≤ room B = subst (λ (i : ℕ). length (mapOf i (chipOf d)) ≤ room i) b (s .few) in
-        omega (arith, k, map-rows B (chipOf d))
-
     -- the steps of a call wear the chip
     step-worn : (b : Bool) (p s : ℕ) (l : List Op) (m : Map (List ℕ)) → length c′ ≡ 4096 * B → Lives F (on noise f w) c n q ops → F → Came b x p s c c′ l m
         → Worn B (suc n) (q + missed b) (ops ++ l) (chipOf c′)
@@ -202,7 +203,7 @@ module _ (B : ℕ) (big : 4 ≤ B) where
   -- ---- ANOTHER SCRIPT
   module _ (f f′ : ℕ) where
     -- power that is there was there before
-    lit-before : (f ≡ 0 → f′ ≡ 0) → 0 < f′ → 0 < f
+    pub lit-before : (f ≡ 0 → f′ ≡ 0) → 0 < f′ → 0 < f
     lit-before z l = go f refl
       where
         go : (g : ℕ) → f ≡ g → 0 < f

@@ -1,6 +1,7 @@
 pub mod Histories
 pub mod Walks
 pub mod Printed
+pub mod Short
 pub mod Answered
 pub mod Formatted
 pub mod Old

@@ -10,6 +10,7 @@ use Rattle.histories.specs.Walks.{Call, Walks, Given, Answers}
 use Rattle.histories.proofs.Histories as histories
 use Rattle.histories.proofs.Answered as answered
 use Rattle.histories.proofs.Printed as printed
+use Rattle.histories.proofs.Short as short
 use Rattle.histories.proofs.Walks as walks
 use Rattle.histories.proofs.Formatted as formatted
 
@@ -34,6 +35,8 @@ module _ (B : ℕ) (big : 4 ≤ B) where
         get-on = answered.get-on B big h;
         count-on = answered.count-on B big h;
         next-on = answered.next-on B big h;
+        put-short = short.put-short B big h;
+        delete-short = short.delete-short B big h;
         put-never-9 = answered.put-never-9 B big h;
         delete-never-9 = answered.delete-never-9 B big h;
         got-was-put = answered.got-was-put B big h;

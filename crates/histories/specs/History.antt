@@ -6,17 +6,17 @@ use mathlib.Core.Path.{_≡_}
 use mathlib.Core.Logic.{_⊎_}
 use mathlib.Core.List.{List, [], _++_}
 use mathlib.Core.Option.{some}
-use mathlib.Core.Bool.{true, false, cond, _&&_}
-use Prim.Native.Nat.{ℕ, suc, _+_, _*_, _<_}
+use mathlib.Core.Bool.{Bool, true, false, cond, _&&_}
+use Prim.Native.Nat.{ℕ, suc, _+_, _-_, _*_, _<_}
 use lib.Dec.{eqb, leb}
-use lib.ListN.{length}
+use lib.ListN.{length, getD}
 use Rattle.chip.specs.Play.{Op}
 use Rattle.log.specs.Key.{Key}
 use Rattle.log.specs.Map.{Map, lookup}
 use Rattle.log.specs.Ring.{chipOf}
 use Rattle.log.specs.Answers.{Lent, refused, done, putAnswer, getAnswer, deleteAnswer, countAnswer}
 use Rattle.log.specs.Answers.{Answer as Says}
-use Rattle.lent.specs.Area.{Sized, mapIn, Store}
+use Rattle.lent.specs.Area.{blocksOf, Sized, mapIn, passed, Store}
 use Rattle.fetch.specs.Fetched.{Gets, Counts, GetEnds, CountEnds}
 use Rattle.change.specs.Changed.{PutEnds, DeleteEnds}
 use Rattle.start.specs.Started.{StartEnds}
@@ -80,6 +80,35 @@ Fresh (delete key c′ f′ w′ r e h) = Fresh h
 Fresh (get key b b′ r e h) = Fresh h
 Fresh (count r e h) = Fresh h
 Fresh (next key b b′ r e h) = Fresh h
+
+-- ---- HOW LATE CLEANING IS
+
+-- how far the cursor has come, with the place that the last record made
+abbrev pub reached : List ℕ → ℕ
+reached w = passed w + 1
+
+-- THE CURSOR'S ZONE IS CLEAN, as the area says after a call: the first next + (B - 2) places of the log are passed
+abbrev pub clean : List ℕ → List ℕ → Bool
+clean c w = leb (getD w 2 0 + (blocksOf c - 2)) (reached w)
+
+-- after a call that was done and left the zone clean, none; else n
+abbrev pub lateAfter : List ℕ → List ℕ → Answer → ℕ → ℕ
+lateAfter c w (Done k) n = cond (clean c w) 0 n
+lateAfter c w (Refused k) n = n
+
+-- HOW OFTEN THE POWER HAS FAILED SINCE THE ZONE WAS LAST CLEAN: after a put or a delete that was done, or on the blank chip. Of a chip that was found nothing
+-- is known: 6, more than the theorem speaks of
+abbrev pub late : {B : ℕ} {s : Phase} {c : List ℕ} {n q : ℕ} {ops : List Op} → History B s c n q ops → ℕ
+late (begin c z f) = 0
+late (found c z s) = 6
+late (dark h) = suc (late h)
+late (lend {noise} {f} noise′ f′ z h) = late h + failed f f′
+late (start noise f w w′ r e h) = late h
+late (put {noise} {f} key value c′ f′ w′ r e h) = lateAfter c′ w′ r (late h + failed f f′)
+late (delete {noise} {f} key c′ f′ w′ r e h) = lateAfter c′ w′ r (late h + failed f f′)
+late (get key b b′ r e h) = late h
+late (count r e h) = late h
+late (next key b b′ r e h) = late h
 
 -- ---- WHAT THE DOCUMENTS SAY OF A HISTORY, by a plain map
 

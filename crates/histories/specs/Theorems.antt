@@ -7,7 +7,7 @@ use mathlib.Core.Option.{some}
 use mathlib.Core.Bool.{true}
 use Prim.Native.Nat.{ℕ, _+_, _*_, _/_, _≤_, _<_}
 use lib.ListN.{length, take}
-use Rattle.chip.specs.Play.{Op, erases, Did}
+use Rattle.chip.specs.Play.{Op, erases, writes, Did}
 use Rattle.log.specs.Key.{Key}
 use Rattle.log.specs.Map.{lookup}
 use Rattle.log.specs.Answers.{printed}
@@ -20,7 +20,7 @@ use Rattle.format.specs.Formatted.{FormatEnds}
 use Rattle.lent.specs.declared.Answer.{Answer}
 use Rattle.lent.specs.declared.Answer.the-variants.{Done, Refused}
 use Rattle.keys.specs.Next.{NextEnds}
-use Rattle.histories.specs.History.{Phase, off, on, History, Fresh, Tells, WasPut}
+use Rattle.histories.specs.History.{Phase, off, on, History, Fresh, late, Tells, WasPut}
 
 -- what a call may answer while the store is on. With power: not that the sizes are wrong or that it isn't ready, and that the power has gone only where it
 -- went under this call. Where the power has gone since the start: that, and nothing else
@@ -51,6 +51,12 @@ pub record Calls (B : ℕ) {noise : List ℕ} {f : ℕ} {w c : List ℕ} {n q : 
   pub get-on : (key b b′ : List ℕ) (r : Answer) → GetEnds c f w key b b′ r → OnAnswers f f r
   pub count-on : (r : Answer) → CountEnds c f w r → OnAnswers f f r
   pub next-on : (key b b′ : List ℕ) (r : Answer) → NextEnds c f w key b b′ r → OnAnswers f f r
+  -- NO CALL IS LONG: a put or a delete begins at most 1 erase and 10 page writes, and one write more for each failure of the power since the zone was last
+  -- clean, as long as these are at most five
+  pub put-short : late h ≤ 5 → (key value c′ : List ℕ) (f′ : ℕ) (w′ : List ℕ) (r : Answer) (e : PutEnds noise c f w key value c′ f′ w′ r)
+      → (erases (e .did .ops) ≤ 1) × (writes (e .did .ops) ≤ 10 + late h)
+  pub delete-short : late h ≤ 5 → (key c′ : List ℕ) (f′ : ℕ) (w′ : List ℕ) (r : Answer) (e : DeleteEnds noise c f w key c′ f′ w′ r)
+      → (erases (e .did .ops) ≤ 1) × (writes (e .did .ops) ≤ 10 + late h)
   -- NUMBERS DON'T RUN OUT: 9 is never answered, however many pages have been written
   pub put-never-9 : (key value c′ : List ℕ) (f′ : ℕ) (w′ : List ℕ) (r : Answer) → PutEnds noise c f w key value c′ f′ w′ r → r ≢ Refused 9
   pub delete-never-9 : (key c′ : List ℕ) (f′ : ℕ) (w′ : List ℕ) (r : Answer) → DeleteEnds noise c f w key c′ f′ w′ r → r ≢ Refused 9

@@ -1,5 +1,5 @@
--- THE CALL: whatever prefix of its operations is done, with the last one cut as document 03 allows, the map is the one before or the one after; done to the end, it is
--- the one after. Assumes nothing.
+-- THE CALL: whatever prefix of its operations is done, with the last one cut as document 03 allows, the map is the one before or the one after; done to the
+-- end, it is the one after. Assumes nothing.
 use mathlib.Core.Path.{_≡_, refl, ap, _∙_}
 use mathlib.Core.Logic.{_⊎_, inl, inr}
 use mathlib.Core.List.{List}

@@ -1,5 +1,5 @@
--- CLEANING BY THE WAY: a live value is carried to the head, as an append of the value that its key has. Whole or cut, the map stays; the potential does not rise, since
--- the value was old. Assumes nothing.
+-- CLEANING BY THE WAY: a live value is carried to the head, as an append of the value that its key has. Whole or cut, the map stays; the potential does not
+-- rise, since the value was old. Assumes nothing.
 use mathlib.Core.Path.{_≡_, refl, sym, ap, _∙_, subst}
 use mathlib.Core.Logic.{_⊎_, inl, inr}
 use mathlib.Core.List.{List}

@@ -12,8 +12,8 @@ use lib.Dec.{eqb, leb}
 use borrow.Author.Tests.{eq-eqb, ne-eqb, le-leb, lt-leb}
 use Rattle.log.specs.Wear.{only}
 
--- ---- THE ERASES OF A HISTORY, newest first: an opening whose seal is there; an erase whose opening came to nothing, for a failure of the power; a failure that
--- cost no erase
+-- ---- THE ERASES OF A HISTORY, newest first: an opening whose seal is there; an erase whose opening came to nothing, for a failure of the power; a failure
+-- that cost no erase
 pub data Event : Type 0 where
   opens : Event
   again : Event

@@ -19,9 +19,12 @@ pub mod Append
 pub mod Bytes
 pub mod Crash
 pub mod Carry
+pub mod Timely
 pub mod Walk
 pub mod CallLaws
+pub mod TimelyOpening
 pub mod CallCost
+pub mod TimelyCall
 pub mod Numbered
 pub mod Even
 pub mod WearCall

@@ -21,13 +21,13 @@ use Rattle.log.specs.Wear.{age, ages, phi, potential, ripes}
 use Rattle.log.specs.Opening.{Fresh, From, fresh, Opening}
 use Rattle.log.proofs.MapLaws.{some≢none}
 use Rattle.log.proofs.RingLaws.{round-later, round-first, next-is}
-use Rattle.log.proofs.Steps.{Written, Free, run-write, copy-bytes, spare-page, table-at, wrote, block-later, block-ring, block-run, block-map, page-block-only, in-spare, unsealed-map, seal-ring}
+use Rattle.log.proofs.Steps.{Written, Free, run-write, copy-bytes, spare-page, table-at, wrote, block-later, block-ring, block-run, block-table, block-map, page-block-only, in-spare, unsealed-map, seal-ring}
 use Rattle.log.proofs.WearLaws.{Under, ages-turn, ages-moved, ripes-turn, ripes-moved, count-copy, phi-moved}
 use Rattle.log.proofs.Window.{page-block, page-unsealed, page-inj, page-lt}
 use Rattle.log.proofs.LogLaws.{Stands}
 use Rattle.log.proofs.Index.{pages-length, same-place}
 use Rattle.log.proofs.Clean.{run-sorted, run-stands, run-from, skip-none, skip-dead, copied}
-use Rattle.log.proofs.Potential.{block-potential}
+use Rattle.log.proofs.Potential.{block-next, block-potential}
 use Rattle.log.proofs.Turn.{Turned, turned-pages, turned-bytes, turned-length, turned-ages, turned-ripes, seal-turned}
 
 -- a page with a record is not blank
@@ -42,9 +42,10 @@ module _ (B : ℕ) (big : 4 ≤ B) (h : ℕ) (c₀ : Chip) where
   -- ---- it begins: the run is the table of before
 
   begun : (c : Chip) → Ring B c h → Later B c h ⊎ Fresh B c h → ((p : ℕ) → p / 16 ≡ spare B h → c .full p ≡ false)
-      → run B (c .recs) (h + B) (fresh B h) ≡ table B c₀ → mapOf B c ≡ mapOf B c₀ → potential B c ≡ potential B c₀ → Opening B h c₀ c (oldest B (h + B)) (fresh B h)
+      → run B (c .recs) (h + B) (fresh B h) ≡ table B c₀ → mapOf B c ≡ mapOf B c₀ → potential B c ≡ potential B c₀ → table B c ≡ table B c₀ → next c h ≡ next c₀ h
+      → Opening B h c₀ c (oldest B (h + B)) (fresh B h)
   unfolding mapOf
-  begun c r k blank same chip still =
+  begun c r k blank same chip still rows here =
       record {
         ring = r;
         round = k;
@@ -58,6 +59,8 @@ module _ (B : ℕ) (big : 4 ≤ B) (h : ℕ) (c₀ : Chip) where
         memory = ap bytes same;
         chip = chip;
         still = still;
+        same = rows;
+        here = here;
         older = λ few.
             let q : phi (B - 2) (fresh B h - fresh B h) (ages (h + B + 1) (fresh B h - fresh B h) (run B (c .recs) (h + B) (fresh B h)))
             ≡ phi (B - 2) 0 (ages (h + B + 1) FIRST (run B (c .recs) (h + B) (fresh B h))) =
@@ -94,6 +97,8 @@ module _ (B : ℕ) (big : 4 ≤ B) (h : ℕ) (c₀ : Chip) where
       (block-run B big c₀ c h r w (fresh B h) (omega arith) ∙ sym (table-at B big c₀ h r))
       (block-map B big c₀ c h r w f)
       (block-potential B big c₀ c h r w f)
+      (block-table B big c₀ c h r w f)
+      (block-next B big c₀ c h (r .inside) w)
 
   -- it is not: the spare was never used
   pub opening-fresh : Ring B c₀ h → sealed c₀ ((h + 2) % B) ≡ false → Opening B h c₀ c₀ (oldest B (h + B)) (fresh B h)
@@ -102,7 +107,7 @@ module _ (B : ℕ) (big : 4 ≤ B) (h : ℕ) (c₀ : Chip) where
       go : Fresh B c₀ h → Opening B h c₀ c₀ (oldest B (h + B)) (fresh B h)
       go (l, f) =
           let q : spare B h ≡ h + 1 = mod-eq-of-lt (let z : h + 1 < B = omega arith in z) in
-          begun c₀ r (inr (l, f)) (λ p e. f .above p (omega arith) (omega arith)) (sym (table-at B big c₀ h r)) refl refl
+          begun c₀ r (inr (l, f)) (λ p e. f .above p (omega arith) (omega arith)) (sym (table-at B big c₀ h r)) refl refl refl refl
 
   -- ---- one place of the oldest block
 
@@ -121,6 +126,8 @@ module _ (B : ℕ) (big : 4 ≤ B) (h : ℕ) (c₀ : Chip) where
         memory = o .memory;
         chip = o .chip;
         still = o .still;
+        same = o .same;
+        here = o .here;
         older = o .older;
         ripened = o .ripened;
         count = o .count;
@@ -172,6 +179,12 @@ module _ (B : ℕ) (big : 4 ≤ B) (h : ℕ) (c₀ : Chip) where
     copy-cut w =
         let f : Later B c h = opening-later c t s r low l at o in
         (block-ring B big c c′ h (o .ring) (only w) f, block-map B big c c′ h (o .ring) (only w) f ∙ o .chip)
+
+    -- so do the rows and the next place
+    pub copy-rows : Page (pageOf B s) c c′ → (table B c′ ≡ table B c₀) × (next c′ h ≡ next c₀ h)
+    copy-rows w =
+        let f : Later B c h = opening-later c t s r low l at o in
+        (block-table B big c c′ h (o .ring) (only w) f ∙ o .same, block-next B big c c′ h (o .ring .inside) (only w) ∙ o .here)
 
     -- and so does the potential
     pub copy-still : Page (pageOf B s) c c′ → potential B c′ ≡ potential B c₀
@@ -264,6 +277,8 @@ module _ (B : ℕ) (big : 4 ≤ B) (h : ℕ) (c₀ : Chip) where
             memory = ap bytes grown ∙ copy-bytes (run B (c .recs) (h + B) s) (r .key) a s (run-sorted B (c .recs) (h + B) s) live ∙ o .memory;
             chip = block-map B big c c′ h (o .ring) k f ∙ o .chip;
             still = block-potential B big c c′ h (o .ring) k f ∙ o .still;
+            same = block-table B big c c′ h (o .ring) k f ∙ o .same;
+            here = block-next B big c c′ h (o .ring .inside) k ∙ o .here;
             older = turn;
             ripened = riper;
             count = ap length grown ∙ count-copy (r .key) a (placed s (a .1)) m (run-sorted B (c .recs) (h + B) s) live ∙ o .count;

@@ -2,7 +2,7 @@
 -- Assumes nothing.
 use mathlib.Core.Path.{_≡_, sym, ap, _∙_}
 use mathlib.Core.Bool.{false}
-use Prim.Native.Nat.{ℕ, _+_, _-_, _*_, _/_, _≤_}
+use Prim.Native.Nat.{ℕ, _+_, _-_, _*_, _/_, _≤_, _<_}
 use native.Mathlib.Omega.{arith}
 use Rattle.log.specs.Map.{Map}
 use Rattle.log.specs.Log.{Placed, FIRST}
@@ -25,11 +25,15 @@ module _ (B : ℕ) (big : 4 ≤ B) where
       ∙ ap (λ (m : Map Placed). phi (B - 2) (next c h - FIRST) (ages (h + B) (next c h) m)) t
       ∙ sym (potential-at c h r)
 
+  -- the next place of the head is not in the spare
+  pub block-next : (c c′ : Chip) (h : ℕ) → h < B → Block (spare B h) c c′ → next c′ h ≡ next c h
+  block-next c c′ h i w = next-cong c c′ h 15 (λ j l. w .full (16 * h + j) (λ e. spare-other B big h i (let z : (16 * h + j) / 16 ≡ h = omega arith in sym z ∙ e)))
+
   -- it does not see the spare
   pub block-potential : (c c′ : Chip) (h : ℕ) (r : Ring B c h) (w : Block (spare B h) c c′) → Later B c h → potential B c′ ≡ potential B c
   block-potential c c′ h r w f =
       same-potential c c′ h r (block-ring B big c c′ h r w f)
-      (next-cong c c′ h 15 (λ j l. w .full (16 * h + j) (λ e. spare-other B big h (r .inside) (let z : (16 * h + j) / 16 ≡ h = omega arith in sym z ∙ e))))
+      (block-next c c′ h (r .inside) w)
       (block-table B big c c′ h r w f)
 
   -- nor a seal that reads blank

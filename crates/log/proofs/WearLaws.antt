@@ -1,5 +1,5 @@
--- The sum of ages and the count of values not yet moved: what each step does to them. ONE LAW carries all of it: a place is used, so every value but the one written
--- there is a place older. Assumes nothing.
+-- The sum of ages and the count of values not yet moved: what each step does to them. ONE LAW carries all of it: a place is used, so every value but the one
+-- written there is a place older. Assumes nothing.
 use mathlib.Core.Path.{_≡_, refl, sym, ap, _∙_}
 use mathlib.Core.Option.{Option, none, some}
 use mathlib.Core.List.{List, [], _∷_}
@@ -25,7 +25,7 @@ Under e n m = (k : Key) (a : Placed) → lookup k m ≡ some a → a .0 < 15 * e
 -- ---- one value
 
 -- a place is used: it is one older
-older : (e n : ℕ) (a : Placed) → n < 15 → a .0 < 15 * e + n → age e (suc n) a ≡ age e n a + 1
+pub older : (e n : ℕ) (a : Placed) → n < 15 → a .0 < 15 * e + n → age e (suc n) a ≡ age e n a + 1
 older e n a l u = omega arith
 
 -- the next block is opened: it is as old as before

@@ -52,8 +52,8 @@ abbrev pub chipAt : State → Chip
 chipAt (resting c h) = c
 chipAt (copying h c₀ c t s) = c
 
--- THE CURSOR OF A CALL: the log place that it looks at next, how many looks are left to it, and how many pages the head may have for a value to be carried there:
--- 15, and after an opening 14, so that the record has a place
+-- THE CURSOR OF A CALL: the log place that it looks at next, how many looks are left to it, and how many pages the head may have for a value to be carried
+-- there: 15, and after an opening 14, so that the record has a place
 pub record Cursor : Type 0 where
   pub at : ℕ
   pub left : ℕ
@@ -94,8 +94,8 @@ pub record Live (B : ℕ) (c : Chip) (t : ℕ) (r : Rec) (a : Placed) : Type 0 w
 abbrev pub Dead : ℕ → Chip → ℕ → Type 0
 Dead B c t = (r : Rec) (a : Placed) → c .recs (pageOf B t) ≡ some r → lookup (r .key) (table B c) ≡ some a → a .0 ≢ t
 
--- A CALL THAT WRITES THE RECORD x, from here on: its cursor; the chip that it leaves, and where the cursor stood then; the operations that it began, and whether
--- it came to its end. Where it did not, the power went between two operations, or during the last one
+-- A CALL THAT WRITES THE RECORD x, from here on: its cursor; the chip that it leaves, and where the cursor stood then; the operations that it began, and
+-- whether it came to its end. Where it did not, the power went between two operations, or during the last one
 pub data Trace (B : ℕ) (x : Rec) : Cursor → State → Chip → ℕ → List Op → Bool → Type 0 where
   -- the power goes between two operations
   stop : (u : Cursor) (st : State) → Trace B x u st (chipAt st) (u .at) [] false

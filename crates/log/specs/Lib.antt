@@ -5,4 +5,5 @@ pub mod Ring
 pub mod Answers
 pub mod Call
 pub mod Wear
+pub mod Timely
 pub mod Opening

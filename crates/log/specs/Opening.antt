@@ -50,6 +50,8 @@ module _ (B : ℕ) where
     pub memory : bytes (run B (c .recs) (h + B) s) ≡ mapOf B c₀
     pub chip : mapOf B c ≡ mapOf B c₀
     pub still : potential B c ≡ potential B c₀
+    pub same : table B c ≡ table B c₀
+    pub here : next c h ≡ next c₀ h
     -- the potential of memory, seen from the next head, is no more than the ages were; and of the values older than w there is one less for each copy
     pub older : length (table B c₀) ≤ room B
         → phi (B - 2) (s - fresh h) (ages (h + B + 1) (s - fresh h) (run B (c .recs) (h + B) s)) ≤ ages (h + B) 15 (table B c₀)

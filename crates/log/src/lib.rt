@@ -1,5 +1,5 @@
 // The log: which map a chip stands for, and what each step of the store does to it, whole and cut. This crate is theory: its definitions are in
-// specs/, in the order Key, Map, Log, Ring, Answers, Call, Wear; its laws in proofs/. It has no code but numbers, the next
+// specs/, in the order Key, Map, Log, Ring, Answers, Call, Wear, Timely, Opening; its laws in proofs/. It has no code but numbers, the next
 // block of the ring, and a test of keys.
 ghost use mathlib.Core.Path.{_≡_};
 ghost use Prim.Native.Nat.{_+_, _%_, _≤_, _<_};
@@ -12,9 +12,10 @@ pub const MOST_BLOCKS: usize = 4096;
 // How many places of a block take records; the page after them is its seal.
 pub const PLACES: usize = 15;
 
-// Of those, the places of a block that the cursor counts: from the first, all 15.
+// Of those the cursor of cleaning counts RECORDS, from place FIRST on: all of them.
 pub const FIRST: usize = 0;
 
+// How many it counts.
 pub const RECORDS: usize = 15;
 
 // The block k after block h of the ring.

@@ -59,8 +59,8 @@ pub record Opens (B n h : ℕ) (noise c : List ℕ) (f : ℕ) (ix c′ : List �
   pub did : Did 1 16 noise c f c′ f′
   pub right : 0 < f → Ready B (chipOf c) h 15 (take n ix) → OpensBy B n h (chipOf c) (resting (chipOf c) h) c′ f′ ix′ (did .ops) r
 
--- ---- ROOM, where the head is full and the cursor stands at p, with l looks left: memory is ready, the map is the one of before, and the head has a place; or the power
--- went. There always is room in the end. A sweep after it leaves a place for the record
+-- ---- ROOM, where the head is full and the cursor stands at p, with l looks left: memory is ready, the map is the one of before, and the head has a place; or
+-- the power went. There always is room in the end. A sweep after it leaves a place for the record
 abbrev pub RoomsBy : ℕ → ℕ → ℕ → ℕ → ℕ → List ℕ → List ℕ → ℕ → List ℕ → List Op → Room → Type 0
 RoomsBy B n h p l c c′ f′ ix′ ops (Place k x q m) =
     (0 < f′) × Ready B (chipOf c′) k x (take n ix′) × (mapOf B (chipOf c′) ≡ mapOf B (chipOf c))

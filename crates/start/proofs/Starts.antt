@@ -16,10 +16,11 @@ use Rattle.log.specs.Answers.{refuse, done, startAnswer, sizesTest}
 use Rattle.log.specs.Answers.{Answer as Says}
 use Rattle.log.proofs.RingLaws.{test-ring}
 use Rattle.log.proofs.Index.{pages-length}
-use Rattle.lent.specs.Area.{blocksOf, Sized, mapIn, mark, lentToStart, Holds}
+use Rattle.lent.specs.Area.{blocksOf, Sized, mapIn, mark, passed, lentToStart, Holds}
 use Rattle.start.specs.Started.{Starts}
 use Rattle.start.specs.Least.{leastOf}
-use Rattle.start.proofs.Cursor.{least-take}
+use Rattle.start.proofs.Cursor.{least-take, least-oldest}
+use Rattle.log.specs.Timely.{logEnd, Oldest}
 use Rattle.start.specs.Replay.{ReadyFor, ReadiesBy, Readies}
 use Rattle.lent.proofs.Area.{downed, downed-1, downed-2, downed-3, downed-4, downed-16, back-long, back-index}
 use Rattle.lent.proofs.Numbers.{sizes-hold}
@@ -114,13 +115,13 @@ module _ (c : List ℕ) (f : ℕ) (w w′ : List ℕ) where
   pub start-5 : sizesTest (length c) (length w) ≡ false → Starts c w w (startAnswer (lentToStart c f w) (chipOf c)) (Refused 5)
   unfolding refuse
   start-5 p =
-      subst (λ (s : Says (Map (List ℕ))). Starts c w w s (Refused 5)) (start-by false _ _ p refl refl) (record { size = refl; ends = (refl, λ _. refl, λ e. absurd (omega arith)) })
+      subst (λ (s : Says (Map (List ℕ))). Starts c w w s (Refused 5)) (start-by false _ _ p refl refl) (record { size = refl; ends = (refl, λ _. refl, λ e. absurd (omega arith)); cursor = tt })
 
   pub start-7 : Sized c w → f ≡ 0 → Starts c w w (startAnswer (lentToStart c f w) (chipOf c)) (Refused 7)
   unfolding refuse
   start-7 s z =
       subst (λ (s : Says (Map (List ℕ))). Starts c w w s (Refused 7)) (start-by true true _ (sizes-hold c w s) (eq-eqb f 0 z) refl)
-      (record { size = refl; ends = (refl, λ _. refl, λ e. absurd (omega arith)) })
+      (record { size = refl; ends = (refl, λ _. refl, λ e. absurd (omega arith)); cursor = tt })
 
   module _ (s : Sized c w) (lit : 0 < f) (size : length w′ ≡ length w) where
     -- it can't be read
@@ -129,14 +130,14 @@ module _ (c : List ℕ) (f : ℕ) (w w′ : List ℕ) where
     unfolding refuse
     start-8 t z =
         subst (λ (s : Says (Map (List ℕ))). Starts c w w′ s (Refused 8)) (start-by true false false (sizes-hold c w s) (ne-eqb f 0 (λ e. omega arith)) t)
-        (record { size = size; ends = (refl, λ n. absurd (n refl), λ _. z) })
+        (record { size = size; ends = (refl, λ n. absurd (n refl), λ _. z); cursor = tt })
 
     start-done : (ringTest (blocksOf c) (chipOf c) (head (blocksOf c) (chipOf c)) && leb (length (mapIn c)) (room (blocksOf c))) ≡ true → mark w′ ≡ 1 → Holds c w′
-        → Starts c w w′ (startAnswer (lentToStart c f w) (chipOf c)) (Done 0)
+        → Oldest (blocksOf c) (chipOf c) (getD w′ 1 0) (passed w′) → Starts c w w′ (startAnswer (lentToStart c f w) (chipOf c)) (Done 0)
     unfolding refuse
-    start-done t m h =
+    start-done t m h a =
         subst (λ (s : Says (Map (List ℕ))). Starts c w w′ s (Done 0)) (start-by true false true (sizes-hold c w s) (ne-eqb f 0 (λ e. omega arith)) t)
-        (record { size = size; ends = (refl, m, h) })
+        (record { size = size; ends = (refl, m, h); cursor = a })
 
     module _ (b h : ℕ) (same : b ≡ blocksOf c) (at : h ≡ head b (chipOf c)) where
       at-head : h ≡ head (blocksOf c) (chipOf c)
@@ -174,6 +175,19 @@ module _ (c : List ℕ) (f : ℕ) (w w′ : List ℕ) where
                 };
           }
 
+      -- and its cursor stands at the oldest value
+      ready-oldest : Ring (blocksOf c) (chipOf c) h → ReadyFor c h w′ → Oldest (blocksOf c) (chipOf c) (getD w′ 1 0) (passed w′)
+      unfolding table
+      ready-oldest r y =
+          subst (λ (x : ℕ). Oldest (blocksOf c) (chipOf c) x (passed w′)) (sym (y .head))
+          (least-oldest (blocksOf c) (s .some-blocks) (chipOf c) h r (passed w′)
+          (y .cursor
+          ∙ ap (λ (x : ℕ). leastOf ((h + 2) % blocksOf c) (blocksOf c) (logEnd (blocksOf c) (next (chipOf c) h)) (pages (blocksOf c) (tableAt (blocksOf c) (chipOf c) h)) x)
+          (sym (y .count))
+          ∙ ap
+          (λ (x : ℕ). leastOf ((h + 2) % blocksOf c) (blocksOf c) (logEnd (blocksOf c) (next (chipOf c) h)) (pages (blocksOf c) (tableAt (blocksOf c) (chipOf c) x))
+          (length (tableAt (blocksOf c) (chipOf c) x))) at-head))
+
       -- a ring, and the last step
       pub start-ringed : ringTest b (chipOf c) h ≡ true → (r : Answer) → Readies c h w′ r → Starts c w w′ (startAnswer (lentToStart c f w) (chipOf c)) r
       start-ringed e r y = go r (y .ends)
@@ -183,7 +197,7 @@ module _ (c : List ℕ) (f : ℕ) (w w′ : List ℕ) where
               let g : ringTest (blocksOf c) (chipOf c) h ≡ true = ap (λ (B : ℕ). ringTest B (chipOf c) h) (sym same) ∙ e in
               subst (λ (i : ℕ). Starts c w w′ (startAnswer (lentToStart c f w) (chipOf c)) (Done i)) (sym (d .0))
               (start-done (both-tests true true e (le-leb (length (mapIn c)) (room (blocksOf c)) (omega (arith, map-rows, d .1 .few, d .1 .count)))) (d .1 .marked)
-              (ready-holds (test-ring (blocksOf c) (chipOf c) h g) (d .1)))
+              (ready-holds (test-ring (blocksOf c) (chipOf c) h g) (d .1)) (ready-oldest (test-ring (blocksOf c) (chipOf c) h g) (d .1)))
           go (Refused k) d =
               subst (λ (i : ℕ). Starts c w w′ (startAnswer (lentToStart c f w) (chipOf c)) (Refused i)) (sym (d .0))
               (start-8 (both-tests true false e (lt-leb (length (mapIn c)) (room (blocksOf c)) (omega (arith, map-rows, d .2)))) (d .1))

@@ -79,7 +79,7 @@ fn log_place(t: u32, b: u32, q: u32) -> u32
     requires { ⌜ (t < b) × (b ≤ mostBlocks) ⌝ }
     ensures { λ r. ⌜ r ≡ logPlaceOf t b q ⌝ }
 {
-    15 * blocks_after(t, b, q / 16) + q % 16
+    log::RECORDS as u32 * blocks_after(t, b, q / 16) + q % 16
 }
 
 // The lesser of two numbers.

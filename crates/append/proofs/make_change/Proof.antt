@@ -2,7 +2,7 @@
 use mathlib.Core.Path.{refl, _∙_, subst}
 use native.Mathlib.Omega.{arith}
 use Rattle.opening.specs.Ends.{RoomWithin}
-use Rattle.append.specs.Steps.{Places}
+use Rattle.tidy.specs.Steps.{Places}
 use Rattle.append.proofs.Runs.{undenied-kept}
 use Rattle.append.proofs.Appends.{change-denied, change-appended, change-gone, change-stuck}
 use borrow.Author.Needs.{needs}

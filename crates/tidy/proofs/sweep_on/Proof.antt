@@ -1,12 +1,12 @@
--- `append::sweep_on` meets its contract. Assumes nothing.
+-- `tidy::sweep_on` meets its contract. Assumes nothing.
 use mathlib.Core.Path.{subst}
 use native.Mathlib.Omega.{arith}
 use Rattle.sweep.specs.Ends.{SweptWithin}
 use Rattle.sweep.specs.Steps.{Sweeps}
-use Rattle.append.proofs.Place.{swept-place, swept-gone, swept-stuck}
+use Rattle.tidy.proofs.Place.{swept-place, swept-gone, swept-stuck}
 use borrow.Author.Needs.{needs}
-use Rattle.append.proofs.sweep_on.Statement.{statement}
-use Rattle.append.proofs.sweep_on.Tie as tie
+use Rattle.tidy.proofs.sweep_on.Statement.{statement}
+use Rattle.tidy.proofs.sweep_on.Tie as tie
 
 sweep-requires : tie.Need-sweep-requires
 sweep-requires c κs = (c .before .before .before .before .before .before .pre .0, (omega (arith, c .before .before .before .before .before .before .pre .1), omega arith))

@@ -1,13 +1,13 @@
--- `append::make_more` meets its contract. Assumes nothing.
+-- `tidy::make_more` meets its contract. Assumes nothing.
 use mathlib.Core.Path.{subst}
 use native.Mathlib.Omega.{arith}
 use Rattle.clean.proofs.Runs.{sane-moved}
 use Rattle.opening.specs.Ends.{RoomWithin}
 use Rattle.opening.specs.Steps.{Rooms}
-use Rattle.append.proofs.Place.{within-then, more-swept, more-gone, more-stuck}
+use Rattle.tidy.proofs.Place.{within-then, more-swept, more-gone, more-stuck}
 use borrow.Author.Needs.{needs}
-use Rattle.append.proofs.make_more.Statement.{statement}
-use Rattle.append.proofs.make_more.Tie as tie
+use Rattle.tidy.proofs.make_more.Statement.{statement}
+use Rattle.tidy.proofs.make_more.Tie as tie
 
 make-room-requires : tie.Need-make-room-requires
 make-room-requires c κs = c .before .before .before .before .before .before .pre

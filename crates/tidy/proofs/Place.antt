@@ -18,7 +18,7 @@ use Rattle.opening.specs.Ends.{RoomWithinBy, RoomWithin}
 use Rattle.opening.specs.Steps.{Rooms}
 use Rattle.opening.specs.declared.Room.{Room}
 use Rattle.opening.specs.declared.Room.the-variants.{Place, Gone, Stuck}
-use Rattle.append.specs.Steps.{PlacesBy, Places}
+use Rattle.tidy.specs.Steps.{PlacesBy, Places}
 
 -- the ranges of one stretch after another
 pub within-then : (B p l q m : ℕ) (r : Room) → m ≤ l → (p < 4294967296 → q < 4294967296) → RoomWithin B q m r → RoomWithin B p l r

@@ -1,13 +1,13 @@
--- `append::make_place` meets its contract. Assumes nothing.
+-- `tidy::make_place` meets its contract. Assumes nothing.
 use mathlib.Core.Path.{subst}
 use native.Mathlib.Omega.{arith}
 use Rattle.clean.proofs.Runs.{sane-moved}
 use Rattle.sweep.specs.Ends.{SweptWithin}
 use Rattle.sweep.specs.Steps.{Sweeps}
-use Rattle.append.proofs.Place.{within-then, swept-place, swept-gone, swept-stuck, places-more, place-more}
+use Rattle.tidy.proofs.Place.{within-then, swept-place, swept-gone, swept-stuck, places-more, place-more}
 use borrow.Author.Needs.{needs}
-use Rattle.append.proofs.make_place.Statement.{statement}
-use Rattle.append.proofs.make_place.Tie as tie
+use Rattle.tidy.proofs.make_place.Statement.{statement}
+use Rattle.tidy.proofs.make_place.Tie as tie
 
 sweep-requires : tie.Need-sweep-requires
 sweep-requires c κs = (c .before .before .before .before .before .before .pre .0, (c .before .before .before .before .before .before .pre .1, omega arith))
