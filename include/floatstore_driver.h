@@ -1,4 +1,4 @@
-/* floatstore_driver.h: the calls of floatstore.h for a chip behind a driver, as on a float. For C firmware; docs/PORT.md has the
+/* floatstore_driver.h: the calls of floatstore.h for a chip behind a driver, as on a float. For C firmware; docs/PORT-OTHER.md has the
  * way to a board.
  *
  * What floatstore.h says of sizes, work area, answers, power failures and costs holds here too. What is different:

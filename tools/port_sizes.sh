@@ -1,5 +1,5 @@
 #!/bin/sh
-# port_sizes.sh: makes every target of tools/port, and prints the bytes of code of both builds (docs/PORT.md). There is no data beside it.
+# port_sizes.sh: makes every target of tools/port, and prints the bytes of code of both builds (docs/PORT-OTHER.md). There is no data beside it.
 cd "$(dirname "$(readlink -f "$0")")/.." || exit 1
 tools/need.sh size binutils || exit 1
 echo '| target | chip in memory | behind a driver |'

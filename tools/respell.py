@@ -3,8 +3,11 @@
 repository, after the kit's own script (docs/PORT.md). Names of types and of src/, strings, and what a proof file of a function declares stay.
 
 A lemma that would have the name of a definition gets `_lem` after it. A name is respelled so: a capital inside it begins a word (keyAt, key_at), a dash before a letter or a digit is an underscore (all-at, all_at); a dash
-before an operator stays (alter-<). Two names that fall together are refused."""
+before an operator stays (alter-<). Two names that fall together are refused.
+
+With --crates, run after it: gives the crates in CRATES another name, since the kit has libraries of theirs."""
 import glob
+import os
 import re
 import sys
 
@@ -14,6 +17,7 @@ NOT_OURS = {"getD": "get_or"}  # a library's name within one of ours
 LEMMAS = "blank-at first-test key-on later-test lent-on page-at ring-test sound-one table-at".split()  # each beside a definition of its name
 # a lemma that the kit's script gave the name of a function of src/, in the files that cite it, where no path leads to it
 VALUE_ON = ["crates/record/proofs/Fields.antt", "crates/record/proofs/value_on/Proof.antt"]
+CRATES = {"log": "ring_log"}
 
 
 def files(*patterns):
@@ -47,7 +51,28 @@ def swap(text, new):
     return WORD.sub(lambda m: m.group(0).replace("-", "_") if m.group(0) in LEMMAS and text[:m.start()].endswith(".") else new.get(m.group(0), m.group(0)), text)
 
 
+def crates():
+    text = open("crates.txt", encoding="utf-8").read().split("\n")
+    for old, new in CRATES.items():
+        if os.path.isdir(f"crates/{old}"):
+            os.rename(f"crates/{old}", f"crates/{new}")
+        text = [t if t.startswith("#") else re.sub(rf"\b{old}\b", new, t) for t in text]
+        paths = [(rf"\bRattle\.{old}\b", f"Rattle.{new}"), (rf"(?<![\w./]){old}::", f"{new}::"), (rf"\bcrates/{old}/", f"crates/{new}/"),
+                 (rf"^use {old};", f"use {new};"), (rf"^(- \*\*|\| )`{old}`", rf"\1`{new}`")]
+        for f in files("crates/**/*.antt", "crates/*/src/*.rt", "crates/*/must-*/*.edit", "*.md", "docs/**/*.md", "tests/*", "tools/*", ".ci/run"):
+            if not os.path.isfile(f) or f == "tools/respell.py":
+                continue
+            was = now = open(f, encoding="utf-8").read()
+            for a, b in paths:
+                now = re.sub(a, b, now, flags=re.M)
+            if now != was:
+                open(f, "w", encoding="utf-8").write(now)
+    open("crates.txt", "w", encoding="utf-8").write("\n".join(text))
+
+
 def main():
+    if "--crates" in sys.argv:
+        return crates()
     names = declared()
     new = {n: respelled(n) for n in names if respelled(n) != n}
     now = list(new.values())

@@ -1,5 +1,5 @@
 /* A page of firmware to copy: a float's settings on a serial NOR flash, by nor.c. Compile it with nor.c and the two functions of your board (nor.h), and link
- * libfloatstore_driver.a: docs/PORT.md. What is your board's own stands in the next three lines. */
+ * libfloatstore_driver.a: docs/PORT-OTHER.md. What is your board's own stands in the next three lines. */
 #include "nor.h"
 #include <floatstore_driver.h>
 #include <stdio.h>

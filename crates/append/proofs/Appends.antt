@@ -14,21 +14,21 @@ use Rattle.chip.specs.Play.{Op, write, Writable, Did}
 use Rattle.chip.proofs.Power.{write_stayed, write_went}
 use Rattle.chip.proofs.Plays.{did_none, did_write, did_meant, did_more, did_then, did_length}
 use Rattle.record.specs.Record.{Rec, Proper, record_of, record_page}
-use Rattle.log.specs.Key.{Key}
-use Rattle.log.specs.Map.{Map, lookup, alter, Sorted, keys}
-use Rattle.log.specs.Log.{Placed, placed, pages}
-use Rattle.log.specs.Ring.{Chip, chip_of, Ring, next, table_at, table, map_of, head, room, Ready}
-use Rattle.log.specs.Call.{resting, Wrote, CutWrote, Cursor, cursor, begin, Swept, Trace, append, append_cut, Goes, Ends}
-use Rattle.log.specs.Answers.{missing}
-use Rattle.log.proofs.MapLaws.{or_zero}
-use Rattle.log.proofs.MapMore.{sorted_map_v}
-use Rattle.log.proofs.Index.{pages_length}
-use Rattle.log.proofs.RingLaws.{next_blank}
-use Rattle.log.proofs.Append.{table_sorted, place, place_page, put_table, put_map, put_ready}
-use Rattle.log.proofs.Steps.{Written}
-use Rattle.log.proofs.Crash.{append_written}
-use Rattle.log.proofs.AnswerLaws.{count_alter}
-use Rattle.log.proofs.Bytes.{wrote_record, cut_record}
+use Rattle.ring_log.specs.Key.{Key}
+use Rattle.ring_log.specs.Map.{Map, lookup, alter, Sorted, keys}
+use Rattle.ring_log.specs.Log.{Placed, placed, pages}
+use Rattle.ring_log.specs.Ring.{Chip, chip_of, Ring, next, table_at, table, map_of, head, room, Ready}
+use Rattle.ring_log.specs.Call.{resting, Wrote, CutWrote, Cursor, cursor, begin, Swept, Trace, append, append_cut, Goes, Ends}
+use Rattle.ring_log.specs.Answers.{missing}
+use Rattle.ring_log.proofs.MapLaws.{or_zero}
+use Rattle.ring_log.proofs.MapMore.{sorted_map_v}
+use Rattle.ring_log.proofs.Index.{pages_length}
+use Rattle.ring_log.proofs.RingLaws.{next_blank}
+use Rattle.ring_log.proofs.Append.{table_sorted, place, place_page, put_table, put_map, put_ready}
+use Rattle.ring_log.proofs.Steps.{Written}
+use Rattle.ring_log.proofs.Crash.{append_written}
+use Rattle.ring_log.proofs.AnswerLaws.{count_alter}
+use Rattle.ring_log.proofs.Bytes.{wrote_record, cut_record}
 use Rattle.index.specs.Index.{keys_of, Ordered}
 use Rattle.index.specs.Answers.{FindsBy, Finds, put_at}
 use Rattle.index.specs.declared.Found.{Found}

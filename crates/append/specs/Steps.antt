@@ -1,13 +1,13 @@
 -- What the steps of one record more answer: x is the record that is written, a value or a note. Where memory is ready for the chip, they are the steps of a
--- call (`Trace`, crates/log/specs/Call.antt). Assumes nothing.
+-- call (`Trace`, crates/ring_log/specs/Call.antt). Assumes nothing.
 use Rattle.std.specs.Prelude.{Bool, true, false, ◌&&◌, List, [], ◌≡◌, ℕ, ◌≤◌, ◌<◌, ◌*◌, ◌+◌, ◌-◌, leb, length, take}
 use Rattle.chip.specs.Play.{Op, Did}
 use Rattle.record.specs.Record.{most_value, Rec, record_of}
-use Rattle.log.specs.Answers.{missing}
-use Rattle.log.specs.Call.{resting, Cursor, cursor, begin, Swept, Trace}
-use Rattle.log.specs.Key.{Key}
-use Rattle.log.specs.Map.{Map, lookup}
-use Rattle.log.specs.Ring.{chip_of, room, map_of, Ready}
+use Rattle.ring_log.specs.Answers.{missing}
+use Rattle.ring_log.specs.Call.{resting, Cursor, cursor, begin, Swept, Trace}
+use Rattle.ring_log.specs.Key.{Key}
+use Rattle.ring_log.specs.Map.{Map, lookup}
+use Rattle.ring_log.specs.Ring.{chip_of, room, map_of, Ready}
 use Rattle.index.specs.Answers.{Finds, put_at, take_out}
 use Rattle.index.specs.Index.{keys_of}
 use Rattle.index.specs.declared.Found.{Found}

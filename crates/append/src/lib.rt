@@ -1,7 +1,9 @@
 // One record more (document 01, section 3): the key is looked for, room is made, the record written at the end of the head, and the index brought up to it.
 // What it answers is said in specs/Steps.antt; put and delete, and what they test first, are in the crate `change`.
+#![tactic(auto)]
+
 ghost use Rattle.std.specs.Prelude.{◌≡◌, ◌+◌, ◌*◌, ◌≤◌, ◌<◌, length, take};
-ghost use Rattle.log.specs.Ring.{room, most_blocks};
+ghost use Rattle.ring_log.specs.Ring.{room, most_blocks};
 ghost use Rattle.index.specs.Answers.{Within};
 ghost use Rattle.clean.specs.Ends.{Sane};
 ghost use Rattle.append.specs.Steps.{Keyed, ChangeWithin, Undenied, ChangeKept, is_missing, denial, entered, Appends, Alters};
@@ -86,7 +88,7 @@ fn denied(found: Found, note: bool, n: usize, b: usize) -> u32
     if note {
         return 4;
     }
-    let left = log::room(b) - n;
+    let left = ring_log::room(b) - n;
     if left < 1 {
         return 3;
     }

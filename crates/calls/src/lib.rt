@@ -1,4 +1,6 @@
 // The calls of the store, as the programs try_* make them: all that they know of it.
+#![tactic(auto)]
+
 use lent::Answer;
 
 // The calls that may change the chip or the area, by number.

@@ -1,4 +1,6 @@
 // Chance: random pages, chips of four blocks and work areas for them.
+#![tactic(auto)]
+
 ghost use Rattle.std.specs.Prelude.{◌+◌, ◌*◌, ◌≤◌, ◌<◌, length};
 
 // ---- random numbers

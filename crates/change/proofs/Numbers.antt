@@ -8,8 +8,8 @@ use lib.Dec.{eqb, leb}
 use lib.ListN.{length}
 use borrow.Author.Tests.{le-leb, lt-leb}
 use Rattle.record.specs.Record.{most_value}
-use Rattle.log.specs.Answers.{printed, refuse, keyed}
-use Rattle.log.specs.Answers.{Answer as Says}
+use Rattle.ring_log.specs.Answers.{printed, refuse, keyed}
+use Rattle.ring_log.specs.Answers.{Answer as Says}
 use Rattle.lent.specs.Tested.{number, key_number, due}
 use Rattle.lent.proofs.Numbers.{key_fits}
 use Rattle.change.specs.Steps.{put_number}

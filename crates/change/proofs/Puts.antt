@@ -13,17 +13,17 @@ use borrow.Rule.Slice.PartMut.{mid_of, put_mid}
 use Rattle.chip.specs.Play.{Op, erases, writes, Did}
 use Rattle.chip.proofs.Plays.{did_none, did_more, did_length}
 use Rattle.record.specs.Record.{most_value, Rec, record_of}
-use Rattle.log.specs.Map.{Map, lookup, alter}
-use Rattle.log.specs.Ring.{chip_of, head, Ring, map_of, room, most_blocks, Ready}
-use Rattle.log.specs.Call.{resting, begin, Trace, After}
-use Rattle.log.specs.Timely.{Timely}
-use Rattle.log.proofs.Timely.{timely_more}
-use Rattle.log.proofs.TimelyCall.{call_timely}
-use Rattle.log.specs.Answers.{missing, printed, refuse, lent, keyed, refused, done, put_answer, delete_answer}
-use Rattle.log.specs.Answers.{Answer as Says}
-use Rattle.log.proofs.RingLaws.{ring_head}
-use Rattle.log.proofs.CallLaws.{call_map}
-use Rattle.log.proofs.CallCost.{Rest, call_short}
+use Rattle.ring_log.specs.Map.{Map, lookup, alter}
+use Rattle.ring_log.specs.Ring.{chip_of, head, Ring, map_of, room, most_blocks, Ready}
+use Rattle.ring_log.specs.Call.{resting, begin, Trace, After}
+use Rattle.ring_log.specs.Timely.{Timely}
+use Rattle.ring_log.proofs.Timely.{timely_more}
+use Rattle.ring_log.proofs.TimelyCall.{call_timely}
+use Rattle.ring_log.specs.Answers.{missing, printed, refuse, lent, keyed, refused, done, put_answer, delete_answer}
+use Rattle.ring_log.specs.Answers.{Answer as Says}
+use Rattle.ring_log.proofs.RingLaws.{ring_head}
+use Rattle.ring_log.proofs.CallLaws.{call_map}
+use Rattle.ring_log.proofs.CallCost.{Rest, call_short}
 use Rattle.lent.specs.Area.{blocks_of, Checked, map_in, mark, lent_of, Kept, Store}
 use Rattle.lent.specs.Tested.{lent_number, key_number, due, Tested}
 use Rattle.append.specs.Steps.{ChangeWithin, ChangeKept, denial_in, Alters}

@@ -2,12 +2,12 @@
 use Rattle.std.specs.Prelude.{Bool, true, false, List, [], ◌≢◌, ◌⊎◌, ◌≡◌, ℕ, ◌≤◌, ◌<◌, ◌*◌, ◌+◌, ◌-◌, ◌/◌, length}
 use Rattle.chip.specs.Play.{Op, Did, erases, writes}
 use Rattle.record.specs.Record.{Rec, record_of}
-use Rattle.log.specs.Answers.{refused, done, put_answer, delete_answer}
-use Rattle.log.specs.Answers.{Answer as Says}
-use Rattle.log.specs.Call.{resting, begin, Trace, After}
-use Rattle.log.specs.Map.{Map}
-use Rattle.log.specs.Ring.{chip_of, head, room}
-use Rattle.log.specs.Timely.{Timely}
+use Rattle.ring_log.specs.Answers.{refused, done, put_answer, delete_answer}
+use Rattle.ring_log.specs.Answers.{Answer as Says}
+use Rattle.ring_log.specs.Call.{resting, begin, Trace, After}
+use Rattle.ring_log.specs.Map.{Map}
+use Rattle.ring_log.specs.Ring.{chip_of, head, room}
+use Rattle.ring_log.specs.Timely.{Timely}
 use Rattle.lent.specs.Area.{blocks_of, map_in, mark, passed, lent_of, Holds, Kept, Store}
 use Rattle.lent.specs.declared.Answer.{Answer}
 use Rattle.lent.specs.declared.Answer.TheVariants.{Done, Refused}
@@ -19,7 +19,7 @@ RefusedKept c f w c' f' w' (Done n) = Unit {0}
 RefusedKept c f w c' f' w' (Refused k) = k ≢ 7 → k ≢ 8 → (c' ≡ c) × (f' ≡ f) × (w' ≡ w)
 
 -- what came of it: it came to its end (b is true) or was cut short. At most 8 (B - 2) / 15 + 1 erases and 8 (B - 2) + B writes; where the cursor of cleaning
--- was in time but for 8 (1 + k), and k is at most 5 (`Timely`, crates/log/specs/Timely.antt), at most 1 erase and 10 + k writes. They are the steps of a call,
+-- was in time but for 8 (1 + k), and k is at most 5 (`Timely`, crates/ring_log/specs/Timely.antt), at most 1 erase and 10 + k writes. They are the steps of a call,
 -- by which the cursor came from p to q; the map is the one after, m, or where it was cut short the one before or the one after; start will succeed on the chip
 pub record Came (b : Bool) (x : Rec) (p q : ℕ) (c c' : List ℕ) (ops : List Op) (m : Map (List ℕ)) : Type 0 where
   pub few_erases : erases ops ≤ room (blocks_of c) / 15 + 1

@@ -2,8 +2,8 @@
 use Rattle.std.specs.Prelude.{Bool, not, List, ◌≡◌, ℕ, ◌+◌, ◌-◌, ◌<◌, ◌*◌, leb, length, set}
 use Rattle.chip.specs.Play.{Did}
 use Rattle.record.specs.Record.{most_value, record_of}
-use Rattle.log.specs.Answers.{done, printed}
-use Rattle.log.specs.Map.{alter}
+use Rattle.ring_log.specs.Answers.{done, printed}
+use Rattle.ring_log.specs.Map.{alter}
 use Rattle.lent.specs.Area.{blocks_of, map_in, mark, Kept}
 use Rattle.lent.specs.Tested.{number, key_number, due}
 use Rattle.lent.specs.declared.Answer.{Answer}

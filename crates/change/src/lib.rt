@@ -1,5 +1,7 @@
 // Put and delete (document 01, section 3): a record is written at the end of the head, and the index brought up to it. They require nothing of their caller.
 // How they end is said in specs/Changed.antt.
+#![tactic(auto)]
+
 ghost use Rattle.std.specs.Prelude.{◌≡◌, ◌≤◌, ◌<◌, length};
 ghost use Rattle.lent.specs.Area.{Checked};
 ghost use Rattle.change.specs.Changed.{PutEnds, DeleteEnds};
@@ -72,7 +74,7 @@ fn put_refusal(key: &[u8], value: &[u8]) -> u32
     if 0 < k {
         return k;
     }
-    if !log::is_printed(key) {
+    if !ring_log::is_printed(key) {
         return 1;
     }
     if record::MOST_VALUE < value.len() {

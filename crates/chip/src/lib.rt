@@ -1,7 +1,9 @@
 // The chip (document 01, section 1) and its fault script (docs/FAULTS.md): read, erase a block, write a page, whole or cut short.
 // This is the only crate that looks at the chip's bytes, by `read`, or changes them, by `erase` and `write`: on a float a driver stands in their place
-// (docs/PORT.md). What an operation leaves is said in specs/Chip.antt, what a run of them did in specs/Play.antt.
+// (docs/PORT-OTHER.md). What an operation leaves is said in specs/Chip.antt, what a run of them did in specs/Play.antt.
 // `fuse` is the number of the fault script: 0, the power is gone; 1, it goes during the next operation; more, it stays on for that one.
+#![tactic(auto)]
+
 ghost use Rattle.std.specs.Prelude.{◌≡◌, true, ◌+◌, ◌-◌, ◌*◌, ◌≤◌, length, take, drop, replicate};
 ghost use Rattle.page.specs.Page.{each};
 ghost use Rattle.page.specs.Look.{look_of};

@@ -13,9 +13,9 @@ use Rattle.chip.proofs.Power.{write_stayed, write_went}
 use Rattle.chip.proofs.Plays.{did_none, did_meant, did_more}
 use Rattle.record.specs.Record.{Rec, rec_of, anew}
 use Rattle.record.proofs.Copy.{anew_length, anew_bytes, anew_says}
-use Rattle.log.specs.Ring.{chip_of}
-use Rattle.log.specs.Call.{Wrote, CutWrote}
-use Rattle.log.proofs.Bytes.{wrote_copy, cut_copy}
+use Rattle.ring_log.specs.Ring.{chip_of}
+use Rattle.ring_log.specs.Call.{Wrote, CutWrote}
+use Rattle.ring_log.proofs.Bytes.{wrote_copy, cut_copy}
 use Rattle.clean.specs.declared.Turn.TheVariants.{On, Dark, Dirty}
 use Rattle.clean.specs.Steps.{Carries}
 

@@ -14,17 +14,17 @@ use Rattle.page.specs.Page.{all}
 use Rattle.page.proofs.All.{all_at, all_join, run_fails}
 use Rattle.record.specs.Record.{Rec, rec_at, key_at}
 use Rattle.record.proofs.Reading.{some≢none, some_inj, says_key}
-use Rattle.log.specs.Key.{Key, key≟}
-use Rattle.log.specs.Map.{Map, lookup}
-use Rattle.log.specs.Log.{Placed, page_of, oldest, run, pages}
-use Rattle.log.specs.Ring.{chip_of, sealed, Ring}
-use Rattle.log.specs.Opening.{none_there}
-use Rattle.log.proofs.Window.{page_block}
-use Rattle.log.proofs.RingLaws.{round_first}
-use Rattle.log.proofs.LogLaws.{Stands}
-use Rattle.log.proofs.Clean.{run_sorted, run_stands}
-use Rattle.log.proofs.Place.{found_lookup, absent_lookup}
-use Rattle.log.proofs.Index.{pages_length, pages_at, same_place}
+use Rattle.ring_log.specs.Key.{Key, key≟}
+use Rattle.ring_log.specs.Map.{Map, lookup}
+use Rattle.ring_log.specs.Log.{Placed, page_of, oldest, run, pages}
+use Rattle.ring_log.specs.Ring.{chip_of, sealed, Ring}
+use Rattle.ring_log.specs.Opening.{none_there}
+use Rattle.ring_log.proofs.Window.{page_block}
+use Rattle.ring_log.proofs.RingLaws.{round_first}
+use Rattle.ring_log.proofs.LogLaws.{Stands}
+use Rattle.ring_log.proofs.Clean.{run_sorted, run_stands}
+use Rattle.ring_log.proofs.Place.{found_lookup, absent_lookup}
+use Rattle.ring_log.proofs.Index.{pages_length, pages_at, same_place}
 use Rattle.index.specs.Index.{keys_of, Ordered}
 use Rattle.index.specs.Answers.{Finds}
 use Rattle.index.specs.declared.Found.{Found}

@@ -12,16 +12,16 @@ use Rattle.chip.specs.Chip.{page_at}
 use Rattle.chip.specs.Play.{Op, write}
 use Rattle.chip.proofs.Plays.{did_none, did_more, did_then}
 use Rattle.record.specs.Record.{Rec, rec_of, rec_at, anew}
-use Rattle.log.specs.Log.{page_of, oldest, run, pages}
-use Rattle.log.specs.Ring.{Chip, chip_of, sealed, spare}
-use Rattle.log.specs.Call.{copying, Wrote, CutWrote, Leads, Cut}
-use Rattle.log.specs.Opening.{Opening, fresh, none_there}
-use Rattle.log.proofs.Window.{page_at_lem}
-use Rattle.log.proofs.Steps.{spare_page}
-use Rattle.log.proofs.Opening.{copy_blank}
-use Rattle.log.proofs.Crash.{skip_done, written_at, live_what, copy_done}
-use Rattle.log.proofs.IndexSteps.{copy_replaces}
-use Rattle.log.proofs.Walk.{leads_none, leads_then, leads_cut, leads_skip, leads_copy, cut_copied}
+use Rattle.ring_log.specs.Log.{page_of, oldest, run, pages}
+use Rattle.ring_log.specs.Ring.{Chip, chip_of, sealed, spare}
+use Rattle.ring_log.specs.Call.{copying, Wrote, CutWrote, Leads, Cut}
+use Rattle.ring_log.specs.Opening.{Opening, fresh, none_there}
+use Rattle.ring_log.proofs.Window.{page_at_lem}
+use Rattle.ring_log.proofs.Steps.{spare_page}
+use Rattle.ring_log.proofs.Opening.{copy_blank}
+use Rattle.ring_log.proofs.Crash.{skip_done, written_at, live_what, copy_done}
+use Rattle.ring_log.proofs.IndexSteps.{copy_replaces}
+use Rattle.ring_log.proofs.Walk.{leads_none, leads_then, leads_cut, leads_skip, leads_copy, cut_copied}
 use Rattle.clean.specs.declared.Live.{Live}
 use Rattle.clean.specs.declared.Live.TheVariants.{Yes, No}
 use Rattle.clean.specs.declared.Turn.{Turn}

@@ -1,7 +1,7 @@
 -- What the functions of this crate are given, and the ranges of what they answer. Assumes nothing.
 use Rattle.std.specs.Prelude.{◌≡◌, Bool, not, List, ℕ, ◌+◌, ◌*◌, ◌/◌, ◌≤◌, ◌<◌, length, get_or, eqb}
 use Rattle.page.specs.Page.{all}
-use Rattle.log.specs.Ring.{most_blocks}
+use Rattle.ring_log.specs.Ring.{most_blocks}
 use Rattle.clean.specs.declared.Live.{Live}
 use Rattle.clean.specs.declared.Live.TheVariants.{Yes, No}
 use Rattle.clean.specs.declared.Turn.{Turn}

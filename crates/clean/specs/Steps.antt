@@ -1,15 +1,15 @@
 -- A value carried to another place, and the copies of an opening: what each function did to the chip, and where the index is the one that start made (`Ready`),
--- what that was to the ring. The invariant of the loop is `Opening` (crates/log/specs/Opening.antt); a call is put together by `Leads` and `Cut`
--- (crates/log/specs/Call.antt). Assumes nothing.
+-- what that was to the ring. The invariant of the loop is `Opening` (crates/ring_log/specs/Opening.antt); a call is put together by `Leads` and `Cut`
+-- (crates/ring_log/specs/Call.antt). Assumes nothing.
 use Rattle.std.specs.Prelude.{◌≡◌, ◌≢◌, true, List, [], ◌∷◌, ℕ, ◌+◌, ◌*◌, ◌≤◌, ◌<◌, length, take, set}
 use Rattle.std.proofs.Math.Option.{some}
 use Rattle.chip.specs.Play.{Op, write, Did}
 use Rattle.record.specs.Record.{Rec, rec_of, rec_at, anew}
-use Rattle.log.specs.Map.{lookup}
-use Rattle.log.specs.Log.{Placed, page_of, oldest, run, pages}
-use Rattle.log.specs.Ring.{Chip, chip_of}
-use Rattle.log.specs.Call.{Wrote, CutWrote, State, copying, Leads, Cut}
-use Rattle.log.specs.Opening.{key_at, Opening, fresh, none_there}
+use Rattle.ring_log.specs.Map.{lookup}
+use Rattle.ring_log.specs.Log.{Placed, page_of, oldest, run, pages}
+use Rattle.ring_log.specs.Ring.{Chip, chip_of}
+use Rattle.ring_log.specs.Call.{Wrote, CutWrote, State, copying, Leads, Cut}
+use Rattle.ring_log.specs.Opening.{key_at, Opening, fresh, none_there}
 use Rattle.clean.specs.declared.Live.{Live}
 use Rattle.clean.specs.declared.Live.TheVariants.{Yes, No}
 use Rattle.clean.specs.declared.Turn.{Turn}

@@ -1,7 +1,9 @@
 // Cleaning (document 03, section 3): the live values of the oldest block are copied to the spare, one by one, and the index is brought up to each copy.
 // Whatever stands in the index and on the chip, no call traps, and no page is written that isn't blank. What each function did is said in specs/Steps.antt.
+#![tactic(auto)]
+
 ghost use Rattle.std.specs.Prelude.{◌+◌, ◌*◌, ◌≤◌, ◌<◌, ◌≡◌, length};
-ghost use Rattle.log.specs.Ring.{most_blocks};
+ghost use Rattle.ring_log.specs.Ring.{most_blocks};
 ghost use Rattle.clean.specs.Ends.{Sane, LiveWithin, Few, elsewhere, unlisted, unlisted_run};
 ghost use Rattle.clean.specs.Steps.{Judges, Carries, Turns};
 
@@ -56,7 +58,7 @@ pub fn carry(
     ensures right { Carries x k j page.now noise.now chip.old fuse.old index.old chip.new fuse.new index.new result }
     ensures few { Few result }
 {
-    if log::PLACES <= k {
+    if ring_log::PLACES <= k {
         return Turn::Dirty;
     }
     let p = 16 * x + k;
@@ -89,11 +91,11 @@ fn look_at(
     ensures right { Turns b n h i 1 k noise.now chip.old fuse.old index.old chip.new fuse.new index.new result }
     ensures few { Few result }
 {
-    let q = 16 * log::block_after(h, 2, b) + i;
+    let q = 16 * ring_log::block_after(h, 2, b) + i;
     match is_live(chip, index, n, q) {
         Live::Yes(j) => {
             let page = chip::page_at(chip, q);
-            let spare = log::block_after(h, 1, b);
+            let spare = ring_log::block_after(h, 1, b);
             carry(chip, index, spare, k, j, &page, fuse, noise)
         }
         Live::No => Turn::On(k),
@@ -159,12 +161,12 @@ pub fn clean(
     ensures right { Turns b n h 0 15 0 noise.now chip.old fuse.old index.old chip.new fuse.new index.new result }
     ensures few { Few result }
 {
-    if is_unlisted(index, n, log::block_after(h, 2, b) as u32) {
+    if is_unlisted(index, n, ring_log::block_after(h, 2, b) as u32) {
         return Turn::On(0);
     }
     let mut k = 0;
     let mut i = 0;
-    while i < log::PLACES {
+    while i < ring_log::PLACES {
         match look_at(chip, index, n, b, h, i, k, fuse, noise) {
             Turn::On(m) => {
                 k = m;

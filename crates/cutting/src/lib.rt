@@ -2,6 +2,8 @@
 // was cut or the one after it.
 //
 // A place in the history is the index at which the next call's line begins. The first line is the first start, so that 0 is never the place of a map.
+#![tactic(auto)]
+
 ghost use Rattle.std.specs.Prelude.{◌≤◌, ◌<◌, length};
 
 // Power for longer than the history lasts.

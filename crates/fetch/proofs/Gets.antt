@@ -7,9 +7,9 @@ use native.Mathlib.Omega.{arith}
 use lib.ListN.{length, take, drop, get_or, length-drop}
 use lib.Seq.{take_all}
 use borrow.Rule.Slice.PartMut.{mid_of}
-use Rattle.log.specs.Map.{lookup}
-use Rattle.log.specs.Answers.{lent, done, count_answer, gotten, get_answer}
-use Rattle.log.specs.Answers.{Answer as Says}
+use Rattle.ring_log.specs.Map.{lookup}
+use Rattle.ring_log.specs.Answers.{lent, done, count_answer, gotten, get_answer}
+use Rattle.ring_log.specs.Answers.{Answer as Says}
 use Rattle.lent.specs.Area.{Sized, Checked, map_in, lent_of, Kept}
 use Rattle.lent.specs.Tested.{lent_number, key_number, due, Tested}
 use Rattle.fetch.specs.Fetched.{Counts, Gets, Fetches}

@@ -13,12 +13,12 @@ use borrow.Author.Tests.{le-leb, lt-leb}
 use Rattle.chip.specs.Chip.{page_at}
 use Rattle.record.specs.Record.{value_length, value_at}
 use Rattle.record.proofs.Fields.{value_long}
-use Rattle.log.specs.Key.{Key}
-use Rattle.log.specs.Map.{lookup}
-use Rattle.log.specs.Log.{pages}
-use Rattle.log.specs.Ring.{chip_of, head, table_at, table, map_of}
-use Rattle.log.specs.Answers.{refuse, done, gotten}
-use Rattle.log.specs.Answers.{Answer as Says}
+use Rattle.ring_log.specs.Key.{Key}
+use Rattle.ring_log.specs.Map.{lookup}
+use Rattle.ring_log.specs.Log.{pages}
+use Rattle.ring_log.specs.Ring.{chip_of, head, table_at, table, map_of}
+use Rattle.ring_log.specs.Answers.{refuse, done, gotten}
+use Rattle.ring_log.specs.Answers.{Answer as Says}
 use Rattle.index.specs.Index.{keys_of, Ordered}
 use Rattle.index.specs.Answers.{Within, FindsBy, Finds}
 use Rattle.index.specs.declared.Found.{Found}

@@ -1,10 +1,10 @@
 -- HOW GET AND COUNT END (document 01, section 3), and what their steps answer. Assumes nothing.
 use Rattle.std.specs.Prelude.{List, ◌≡◌, ℕ, ◌≤◌, ◌*◌, length, drop, get_or}
 use Rattle.std.proofs.Math.Option.{Option}
-use Rattle.log.specs.Answers.{refused, done, gotten, get_answer, count_answer}
-use Rattle.log.specs.Answers.{Answer as Says}
-use Rattle.log.specs.Log.{pages}
-use Rattle.log.specs.Ring.{chip_of, table}
+use Rattle.ring_log.specs.Answers.{refused, done, gotten, get_answer, count_answer}
+use Rattle.ring_log.specs.Answers.{Answer as Says}
+use Rattle.ring_log.specs.Log.{pages}
+use Rattle.ring_log.specs.Ring.{chip_of, table}
 use Rattle.lent.specs.Area.{blocks_of, map_in, lent_of, Kept}
 use Rattle.lent.specs.declared.Answer.{Answer}
 use Rattle.lent.specs.declared.Answer.TheVariants.{Done, Refused}

@@ -1,10 +1,12 @@
 // Get and count (document 01, section 3): what the index points at is handed out. They change nothing on the chip, and require nothing of their caller.
 // How they end is said in specs/Fetched.antt.
+#![tactic(auto)]
+
 ghost use Rattle.std.proofs.Math.Option.{some};
 ghost use Rattle.std.specs.Prelude.{◌+◌, ◌*◌, ◌≤◌, length, take};
 ghost use Rattle.record.specs.Record.{value_at};
-ghost use Rattle.log.specs.Answers.{gotten};
-ghost use Rattle.log.specs.Map.{lookup};
+ghost use Rattle.ring_log.specs.Answers.{gotten};
+ghost use Rattle.ring_log.specs.Map.{lookup};
 ghost use Rattle.lent.specs.Area.{map_in};
 ghost use Rattle.fetch.specs.Fetched.{Got, Gets, Counted, GetEnds, CountEnds, Fetches};
 

@@ -1,5 +1,7 @@
 // The store for C (include/floatstore.h): the six calls, the next key, and a start that says what it saw, with answers as numbers. At least 0: done; below: minus the number of the refusal.
 // Each contract is that of the store's call, of the answer whose number is answered; specs/Numbers.antt says which number that is.
+#![tactic(auto)]
+
 ghost use Rattle.std.specs.Prelude.{◌≡◌, pos, neg_ℤ};
 ghost use Rattle.chip.specs.Play.{Did};
 ghost use Rattle.lent.specs.Area.{blocks_of};

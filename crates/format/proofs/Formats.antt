@@ -10,12 +10,12 @@ use lib.Dec.{eqb}
 use lib.ListN.{length}
 use borrow.Author.Tests.{eq-eqb, ne_eqb}
 use Rattle.chip.specs.Chip.{Power, stays, power, erased}
-use Rattle.log.specs.Map.{Map}
-use Rattle.log.specs.Ring.{chip_of}
-use Rattle.log.specs.Answers.{refuse, done, format_answer, sizes_test}
-use Rattle.log.specs.Answers.{Answer as Says}
-use Rattle.log.proofs.Bytes.{whole_erased}
-use Rattle.log.proofs.Start.{blank_map}
+use Rattle.ring_log.specs.Map.{Map}
+use Rattle.ring_log.specs.Ring.{chip_of}
+use Rattle.ring_log.specs.Answers.{refuse, done, format_answer, sizes_test}
+use Rattle.ring_log.specs.Answers.{Answer as Says}
+use Rattle.ring_log.proofs.Bytes.{whole_erased}
+use Rattle.ring_log.proofs.Start.{blank_map}
 use Rattle.lent.specs.Area.{blocks_of, Sized, mark, lent_of}
 use Rattle.format.specs.Formatted.{Formats, ClearsAll}
 use Rattle.lent.proofs.Numbers.{sizes_hold}

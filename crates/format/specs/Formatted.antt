@@ -1,9 +1,9 @@
 -- HOW FORMAT ENDS (document 01, section 3). Assumes nothing.
 use Rattle.std.specs.Prelude.{Bool, true, false, List, ◌⊎◌, ◌≡◌, ℕ, ◌<◌, ◌*◌, length}
-use Rattle.log.specs.Answers.{refused, done, format_answer}
-use Rattle.log.specs.Answers.{Answer as Says}
-use Rattle.log.specs.Map.{Map}
-use Rattle.log.specs.Ring.{chip_of}
+use Rattle.ring_log.specs.Answers.{refused, done, format_answer}
+use Rattle.ring_log.specs.Answers.{Answer as Says}
+use Rattle.ring_log.specs.Map.{Map}
+use Rattle.ring_log.specs.Ring.{chip_of}
 use Rattle.lent.specs.Area.{blocks_of, map_in, mark, lent_of}
 use Rattle.lent.specs.declared.Answer.{Answer}
 use Rattle.lent.specs.declared.Answer.TheVariants.{Done, Refused}

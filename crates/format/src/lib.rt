@@ -1,7 +1,9 @@
 // Format (document 01, section 3): every block is erased. It requires nothing of its caller. How it ends is said in specs/Formatted.antt.
+#![tactic(auto)]
+
 ghost use Rattle.std.specs.Prelude.{◌≡◌, ◌≤◌, ◌*◌, length};
 ghost use Rattle.chip.specs.Play.{Did};
-ghost use Rattle.log.specs.Ring.{most_blocks};
+ghost use Rattle.ring_log.specs.Ring.{most_blocks};
 ghost use Rattle.lent.specs.Area.{blocks_of};
 ghost use Rattle.format.specs.Formatted.{ClearsAll, FormatEnds};
 

@@ -8,12 +8,12 @@ use native.Mathlib.Omega.{arith}
 use lib.ListN.{length, take}
 use borrow.Author.Tests.{eq-eqb, ne_eqb}
 use Rattle.chip.specs.Play.{Op}
-use Rattle.log.specs.Key.{Key, key≟}
-use Rattle.log.specs.Map.{Map, lookup, alter}
-use Rattle.log.specs.Answers.{refuse, refused, done, lent, gotten, put_answer, delete_answer}
-use Rattle.log.specs.Answers.{Answer as Says}
-use Rattle.log.proofs.MapLaws.{some≢none, some_inj, lookup_same, lookup_other}
-use Rattle.log.proofs.AnswerLaws.{refuse_other, refuse_done, done_never, put_done, delete_done, put_no_9, delete_no_9}
+use Rattle.ring_log.specs.Key.{Key, key≟}
+use Rattle.ring_log.specs.Map.{Map, lookup, alter}
+use Rattle.ring_log.specs.Answers.{refuse, refused, done, lent, gotten, put_answer, delete_answer}
+use Rattle.ring_log.specs.Answers.{Answer as Says}
+use Rattle.ring_log.proofs.MapLaws.{some≢none, some_inj, lookup_same, lookup_other}
+use Rattle.ring_log.proofs.AnswerLaws.{refuse_other, refuse_done, done_never, put_done, delete_done, put_no_9, delete_no_9}
 use Rattle.lent.specs.Area.{map_in}
 use Rattle.fetch.specs.Fetched.{Gets, Counts, GetEnds, CountEnds}
 use Rattle.change.specs.Changed.{PutEnds, DeleteEnds}

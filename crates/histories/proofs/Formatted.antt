@@ -10,10 +10,10 @@ use lib.ListN.{length}
 use borrow.Author.Tests.{ne_eqb}
 use Rattle.chip.specs.Play.{Did}
 use Rattle.chip.proofs.Plays.{did_length}
-use Rattle.log.specs.Map.{Map}
-use Rattle.log.specs.Ring.{chip_of, head, ring_test, room}
-use Rattle.log.specs.Answers.{refuse, refused, done, start_answer, format_answer}
-use Rattle.log.specs.Answers.{Answer as Says}
+use Rattle.ring_log.specs.Map.{Map}
+use Rattle.ring_log.specs.Ring.{chip_of, head, ring_test, room}
+use Rattle.ring_log.specs.Answers.{refuse, refused, done, start_answer, format_answer}
+use Rattle.ring_log.specs.Answers.{Answer as Says}
 use Rattle.lent.specs.Area.{blocks_of, Sized, map_in, mark, lent_of, lent_to_start}
 use Rattle.start.specs.Started.{StartsBy, StartEnds}
 use Rattle.format.specs.Formatted.{FormatsBy, FormatEnds}

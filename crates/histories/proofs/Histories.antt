@@ -11,17 +11,17 @@ use borrow.Author.Tests.{eq-eqb, ne_eqb, le-leb, not-false}
 use Rattle.chip.specs.Play.{Op, erases}
 use Rattle.chip.proofs.Plays.{did_length}
 use Rattle.record.specs.Record.{Rec, record_of}
-use Rattle.log.specs.Map.{Map}
-use Rattle.log.specs.Ring.{chip_of, head, Ring, ring_test, table, map_of, room}
-use Rattle.log.specs.Call.{resting, Trace}
-use Rattle.log.specs.Call.{begin as called}
-use Rattle.log.specs.Wear.{erases_of, missed}
-use Rattle.log.specs.Answers.{refuse, refused, done, lent, put_answer, get_answer, delete_answer, count_answer, start_answer}
-use Rattle.log.specs.Answers.{Answer as Says}
-use Rattle.log.proofs.RingLaws.{ring_head, ring_test_lem}
-use Rattle.log.proofs.Start.{blank_ring, blank_map}
-use Rattle.log.proofs.AnswerLaws.{refuse_done}
-use Rattle.log.proofs.WearCall.{Worn, worn_blank, worn_dark, worn_call, worn_even, worn_few}
+use Rattle.ring_log.specs.Map.{Map}
+use Rattle.ring_log.specs.Ring.{chip_of, head, Ring, ring_test, table, map_of, room}
+use Rattle.ring_log.specs.Call.{resting, Trace}
+use Rattle.ring_log.specs.Call.{begin as called}
+use Rattle.ring_log.specs.Wear.{erases_of, missed}
+use Rattle.ring_log.specs.Answers.{refuse, refused, done, lent, put_answer, get_answer, delete_answer, count_answer, start_answer}
+use Rattle.ring_log.specs.Answers.{Answer as Says}
+use Rattle.ring_log.proofs.RingLaws.{ring_head, ring_test_lem}
+use Rattle.ring_log.proofs.Start.{blank_ring, blank_map}
+use Rattle.ring_log.proofs.AnswerLaws.{refuse_done}
+use Rattle.ring_log.proofs.WearCall.{Worn, worn_blank, worn_dark, worn_call, worn_even, worn_few}
 use Rattle.lent.specs.Area.{blocks_of, Sized, map_in, mark, passed, lent_of, lent_to_start, Holds, Kept, Store}
 use Rattle.fetch.specs.Fetched.{Gets, Counts, GetEnds, CountEnds}
 use Rattle.change.specs.Changed.{ChangesBy, Ended, PutEnds, DeleteEnds, Came}

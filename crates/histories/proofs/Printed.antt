@@ -7,12 +7,12 @@ use mathlib.Core.Option.{Option, none, some}
 use mathlib.Core.Bool.{true}
 use Prim.Native.Nat.{ℕ, ◌≤◌}
 use Rattle.chip.specs.Play.{Op}
-use Rattle.log.specs.Key.{Key, key≟}
-use Rattle.log.specs.Map.{Map, lookup, put, alter}
-use Rattle.log.specs.Answers.{Lent, printed, refused, done, put_answer, delete_answer}
-use Rattle.log.specs.Answers.{Answer as Says}
-use Rattle.log.proofs.MapLaws.{some≢none, lookup_there, alter_cases}
-use Rattle.log.proofs.AnswerLaws.{put_done, delete_done}
+use Rattle.ring_log.specs.Key.{Key, key≟}
+use Rattle.ring_log.specs.Map.{Map, lookup, put, alter}
+use Rattle.ring_log.specs.Answers.{Lent, printed, refused, done, put_answer, delete_answer}
+use Rattle.ring_log.specs.Answers.{Answer as Says}
+use Rattle.ring_log.proofs.MapLaws.{some≢none, lookup_there, alter_cases}
+use Rattle.ring_log.proofs.AnswerLaws.{put_done, delete_done}
 use Rattle.lent.specs.Area.{map_in}
 use Rattle.lent.specs.declared.Answer.{Answer}
 use Rattle.keys.specs.Walk.{Has}

@@ -12,21 +12,21 @@ use borrow.Author.Tests.{leb-true}
 use Rattle.chip.specs.Play.{Op, erases, writes}
 use Rattle.chip.proofs.Plays.{did_length}
 use Rattle.record.specs.Record.{Rec, record_of}
-use Rattle.log.specs.Key.{Key}
-use Rattle.log.specs.Map.{Map, lookup}
-use Rattle.log.specs.Log.{Placed}
-use Rattle.log.specs.Ring.{chip_of, head, Ring, next, table, room}
-use Rattle.log.specs.Call.{resting, Trace}
-use Rattle.log.specs.Call.{begin as called}
-use Rattle.log.specs.Timely.{log_end, Behind, Oldest, Timely}
-use Rattle.log.specs.Answers.{refused, done, put_answer, delete_answer, start_answer}
-use Rattle.log.specs.Answers.{Answer as Says}
-use Rattle.log.proofs.MapLaws.{some≢none}
-use Rattle.log.proofs.RingLaws.{ring_head}
-use Rattle.log.proofs.Start.{blank_ring, blank_table}
-use Rattle.log.proofs.CallCost.{Rest}
-use Rattle.log.proofs.Timely.{timely_more, timely_on, zone_timely}
-use Rattle.log.proofs.TimelyCall.{Left, call_timely}
+use Rattle.ring_log.specs.Key.{Key}
+use Rattle.ring_log.specs.Map.{Map, lookup}
+use Rattle.ring_log.specs.Log.{Placed}
+use Rattle.ring_log.specs.Ring.{chip_of, head, Ring, next, table, room}
+use Rattle.ring_log.specs.Call.{resting, Trace}
+use Rattle.ring_log.specs.Call.{begin as called}
+use Rattle.ring_log.specs.Timely.{log_end, Behind, Oldest, Timely}
+use Rattle.ring_log.specs.Answers.{refused, done, put_answer, delete_answer, start_answer}
+use Rattle.ring_log.specs.Answers.{Answer as Says}
+use Rattle.ring_log.proofs.MapLaws.{some≢none}
+use Rattle.ring_log.proofs.RingLaws.{ring_head}
+use Rattle.ring_log.proofs.Start.{blank_ring, blank_table}
+use Rattle.ring_log.proofs.CallCost.{Rest}
+use Rattle.ring_log.proofs.Timely.{timely_more, timely_on, zone_timely}
+use Rattle.ring_log.proofs.TimelyCall.{Left, call_timely}
 use Rattle.lent.specs.Area.{blocks_of, map_in, mark, passed, lent_of, lent_to_start, Holds, Store}
 use Rattle.change.specs.Changed.{ChangesBy, Ended, PutEnds, DeleteEnds, Came}
 use Rattle.start.specs.Started.{StartsBy, CursorBy, StartEnds}

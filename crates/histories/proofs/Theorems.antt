@@ -2,7 +2,7 @@
 use mathlib.Core.List.{List, []}
 use Prim.Native.Nat.{ℕ, ◌≤◌}
 use Rattle.chip.specs.Play.{Op}
-use Rattle.log.specs.Key.{Key}
+use Rattle.ring_log.specs.Key.{Key}
 use Rattle.lent.specs.declared.Answer.{Answer}
 use Rattle.histories.specs.History.{Phase, on, History}
 use Rattle.histories.specs.Theorems.{Ever, Calls, Formatted}

@@ -5,8 +5,8 @@ use mathlib.Core.List.{List, [], ◌∷◌}
 use Prim.Native.Nat.{ℕ, ◌*◌, ◌≤◌, ◌<◌}
 use native.Mathlib.Omega.{arith}
 use lib.ListN.{length}
-use Rattle.log.specs.Key.{Key, ◌≺◌}
-use Rattle.log.specs.Map.{Map, Sorted, keys}
+use Rattle.ring_log.specs.Key.{Key, ◌≺◌}
+use Rattle.ring_log.specs.Map.{Map, Sorted, keys}
 use Rattle.lent.specs.Area.{map_in, lent_of}
 use Rattle.lent.specs.declared.Answer.{Answer}
 use Rattle.lent.specs.declared.Answer.TheVariants.{Done, Refused}

@@ -5,11 +5,11 @@
 use Rattle.std.specs.Prelude.{◌≡◌, ◌⊎◌, List, [], ◌++◌, Bool, true, false, cond, ◌&&◌, ℕ, suc, ◌+◌, ◌-◌, ◌*◌, ◌<◌, eqb, leb, length, get_or}
 use Rattle.std.proofs.Math.Option.{some}
 use Rattle.chip.specs.Play.{Op}
-use Rattle.log.specs.Key.{Key}
-use Rattle.log.specs.Map.{Map, lookup}
-use Rattle.log.specs.Ring.{chip_of}
-use Rattle.log.specs.Answers.{Lent, refused, done, put_answer, get_answer, delete_answer, count_answer}
-use Rattle.log.specs.Answers.{Answer as Says}
+use Rattle.ring_log.specs.Key.{Key}
+use Rattle.ring_log.specs.Map.{Map, lookup}
+use Rattle.ring_log.specs.Ring.{chip_of}
+use Rattle.ring_log.specs.Answers.{Lent, refused, done, put_answer, get_answer, delete_answer, count_answer}
+use Rattle.ring_log.specs.Answers.{Answer as Says}
 use Rattle.lent.specs.Area.{blocks_of, Sized, map_in, passed, Store}
 use Rattle.fetch.specs.Fetched.{Gets, Counts, GetEnds, CountEnds}
 use Rattle.change.specs.Changed.{PutEnds, DeleteEnds}

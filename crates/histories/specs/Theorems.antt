@@ -3,10 +3,10 @@
 use Rattle.std.specs.Prelude.{◌≡◌, ◌≢◌, ◌⊎◌, List, [], true, ℕ, ◌+◌, ◌*◌, ◌/◌, ◌≤◌, ◌<◌, length, take}
 use Rattle.std.proofs.Math.Option.{some}
 use Rattle.chip.specs.Play.{Op, erases, writes, Did}
-use Rattle.log.specs.Key.{Key}
-use Rattle.log.specs.Map.{lookup}
-use Rattle.log.specs.Answers.{printed}
-use Rattle.log.specs.Wear.{erases_of}
+use Rattle.ring_log.specs.Key.{Key}
+use Rattle.ring_log.specs.Map.{lookup}
+use Rattle.ring_log.specs.Answers.{printed}
+use Rattle.ring_log.specs.Wear.{erases_of}
 use Rattle.lent.specs.Area.{blocks_of, Sized, map_in, mark, Holds}
 use Rattle.change.specs.Changed.{PutEnds, DeleteEnds}
 use Rattle.fetch.specs.Fetched.{GetEnds, CountEnds}

@@ -1,8 +1,8 @@
 -- A WALK OVER THE KEYS OF A STORE (document 02, request 8): calls of next from none to the end, with anything between them. Assumes nothing.
 use Rattle.std.specs.Prelude.{◌≡◌, ◌⊎◌, List, [], ◌∷◌, ℕ, ◌≤◌, ◌<◌, length, take}
 use Rattle.chip.specs.Play.{Op}
-use Rattle.log.specs.Key.{Key}
-use Rattle.log.specs.Map.{Map, keys}
+use Rattle.ring_log.specs.Key.{Key}
+use Rattle.ring_log.specs.Map.{Map, keys}
 use Rattle.lent.specs.Area.{map_in}
 use Rattle.lent.specs.declared.Answer.{Answer}
 use Rattle.lent.specs.declared.Answer.TheVariants.{Done, Refused}

@@ -8,17 +8,17 @@ use lib.ListN.{length, get_or, take-append-drop}
 use lib.Seq.{ext_get_or}
 use Rattle.record.specs.Record.{rec_at, key_at}
 use Rattle.record.proofs.Reading.{says_key}
-use Rattle.log.specs.Key.{Key, ◌≺◌}
-use Rattle.log.specs.Map.{Map, alter, keys}
-use Rattle.log.specs.Log.{Placed, page_of, oldest, run, bytes, pages}
-use Rattle.log.specs.Ring.{chip_of, head, table_at, table, map_of}
-use Rattle.log.specs.Opening.{key_at as rowKey, none_there}
-use Rattle.log.proofs.Window.{page_lt}
-use Rattle.log.proofs.MapMore.{sorted_at}
-use Rattle.log.proofs.LogLaws.{Stands}
-use Rattle.log.proofs.Clean.{run_sorted}
-use Rattle.log.proofs.Place.{absent_alter}
-use Rattle.log.proofs.Index.{pages_length, pages_at, pages_insert, pages_replace, pages_remove, index_stands}
+use Rattle.ring_log.specs.Key.{Key, ◌≺◌}
+use Rattle.ring_log.specs.Map.{Map, alter, keys}
+use Rattle.ring_log.specs.Log.{Placed, page_of, oldest, run, bytes, pages}
+use Rattle.ring_log.specs.Ring.{chip_of, head, table_at, table, map_of}
+use Rattle.ring_log.specs.Opening.{key_at as rowKey, none_there}
+use Rattle.ring_log.proofs.Window.{page_lt}
+use Rattle.ring_log.proofs.MapMore.{sorted_at}
+use Rattle.ring_log.proofs.LogLaws.{Stands}
+use Rattle.ring_log.proofs.Clean.{run_sorted}
+use Rattle.ring_log.proofs.Place.{absent_alter}
+use Rattle.ring_log.proofs.Index.{pages_length, pages_at, pages_insert, pages_replace, pages_remove, index_stands}
 use Rattle.index.specs.Index.{keys_of, Ordered}
 use Rattle.index.specs.Answers.{FindsBy, Finds, put_at, take_out}
 use Rattle.index.specs.declared.Found.{Found}

@@ -8,8 +8,8 @@ use native.Mathlib.Omega.{arith}
 use lib.ListN.{length, take, get_or, length-map}
 use lib.Seq.{get_or-take, length-take-le}
 use Rattle.record.specs.Record.{key_at}
-use Rattle.log.specs.Key.{Key, ◌≺◌}
-use Rattle.log.proofs.KeyLaws.{≺_trans}
+use Rattle.ring_log.specs.Key.{Key, ◌≺◌}
+use Rattle.ring_log.proofs.KeyLaws.{≺_trans}
 use Rattle.index.specs.Index.{keys_of, Ordered}
 use Rattle.index.specs.Answers.{ComparedBy, Compared, Finds}
 use Rattle.index.specs.declared.Order.{Order}

@@ -7,15 +7,15 @@ use native.Mathlib.Omega.{arith}
 use lib.ListN.{length, get_or}
 use Rattle.record.specs.Record.{rec_at, value_at}
 use Rattle.record.proofs.Reading.{says_value}
-use Rattle.log.specs.Key.{Key}
-use Rattle.log.specs.Map.{Map, lookup, map_o}
-use Rattle.log.specs.Log.{Placed, page_of, oldest, run, bytes, pages}
-use Rattle.log.specs.Opening.{key_at as rowKey, none_there}
-use Rattle.log.proofs.MapMore.{lookup_map_v}
-use Rattle.log.proofs.LogLaws.{Stands}
-use Rattle.log.proofs.Clean.{run_sorted}
-use Rattle.log.proofs.Place.{absent_lookup, found_lookup}
-use Rattle.log.proofs.Index.{pages_at, index_stands}
+use Rattle.ring_log.specs.Key.{Key}
+use Rattle.ring_log.specs.Map.{Map, lookup, map_o}
+use Rattle.ring_log.specs.Log.{Placed, page_of, oldest, run, bytes, pages}
+use Rattle.ring_log.specs.Opening.{key_at as rowKey, none_there}
+use Rattle.ring_log.proofs.MapMore.{lookup_map_v}
+use Rattle.ring_log.proofs.LogLaws.{Stands}
+use Rattle.ring_log.proofs.Clean.{run_sorted}
+use Rattle.ring_log.proofs.Place.{absent_lookup, found_lookup}
+use Rattle.ring_log.proofs.Index.{pages_at, index_stands}
 use Rattle.index.specs.Index.{keys_of}
 use Rattle.index.specs.Answers.{FindsBy}
 use Rattle.index.specs.declared.Found.TheVariants.{At, Missing}

@@ -1,6 +1,6 @@
 -- What the code's answers say. Assumes nothing.
 use Rattle.std.specs.Prelude.{◌≡◌, List, [], ℕ, ◌≤◌, ◌<◌, length, get_or, set}
-use Rattle.log.specs.Key.{Key, ◌≺◌}
+use Rattle.ring_log.specs.Key.{Key, ◌≺◌}
 use Rattle.index.specs.Index.{insert_at, remove_at}
 use Rattle.index.specs.declared.Order.{Order}
 use Rattle.index.specs.declared.Order.TheVariants.{Below, Same, Above}

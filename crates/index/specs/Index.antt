@@ -1,7 +1,7 @@
 -- The index as a list of page numbers. Nothing here mentions code. Assumes nothing.
 use Rattle.std.specs.Prelude.{List, ◌∷◌, ◌++◌, map, ℕ, suc, ◌+◌, ◌*◌, ◌≤◌, ◌<◌, length, take, drop, get_or}
 use Rattle.record.specs.Record.{key_at}
-use Rattle.log.specs.Key.{Key, ◌≺◌}
+use Rattle.ring_log.specs.Key.{Key, ◌≺◌}
 
 -- the keys that stand on the pages ps of the chip c
 unfoldable pub keys_of : List ℕ → List ℕ → List Key

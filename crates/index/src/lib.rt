@@ -1,5 +1,7 @@
 // The index: page numbers in the order of the keys that stand on those pages, in a part of the lent work area. Find a key by binary search, put a page in,
 // take one out. The definitions are in specs/Index.antt. No entries, whatever they are, make a call trap.
+#![tactic(auto)]
+
 ghost use Rattle.std.specs.Prelude.{◌≡◌, ◌++◌, ◌+◌, ◌-◌, ◌*◌, ◌≤◌, ◌<◌, length, take, drop};
 ghost use Rattle.record.specs.Record.{key_at};
 ghost use Rattle.index.specs.Index.{keys_of, Ordered, insert_at, remove_at};

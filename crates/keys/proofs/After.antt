@@ -13,10 +13,10 @@ use lib.Seq.{drop-cons, get_or-take, length-take-le}
 use borrow.Author.Tests.{le-leb, lt-leb}
 use borrow.Rule.Slice.PartMut.{mid_of}
 use Rattle.record.specs.Record.{key_at}
-use Rattle.log.specs.Key.{Key, ◌≺◌, tri<, tri≡, tri>, tri}
-use Rattle.log.specs.Map.{Map, keys}
-use Rattle.log.specs.Answers.{lent, gotten}
-use Rattle.log.proofs.KeyLaws.{≺_irrefl, ≺_asym, by_tri-<, by_tri-≡, by_tri->}
+use Rattle.ring_log.specs.Key.{Key, ◌≺◌, tri<, tri≡, tri>, tri}
+use Rattle.ring_log.specs.Map.{Map, keys}
+use Rattle.ring_log.specs.Answers.{lent, gotten}
+use Rattle.ring_log.proofs.KeyLaws.{≺_irrefl, ≺_asym, by_tri-<, by_tri-≡, by_tri->}
 use Rattle.index.specs.Index.{keys_of, Ordered}
 use Rattle.index.specs.Answers.{FindsBy, Finds}
 use Rattle.index.specs.declared.Found.{Found}

@@ -7,15 +7,15 @@ use native.Mathlib.Omega.{arith}
 use lib.ListN.{length}
 use Rattle.record.specs.Record.{rec_at}
 use Rattle.record.proofs.Reading.{says_some_key, says_short_key}
-use Rattle.log.specs.Key.{Key}
-use Rattle.log.specs.Map.{lookup, Sorted, map_o}
-use Rattle.log.specs.Log.{Placed, page_of, oldest, run}
-use Rattle.log.specs.Ring.{chip_of, head, table_at, table, map_of}
-use Rattle.log.proofs.Window.{page_lt}
-use Rattle.log.proofs.MapLaws.{some≢none}
-use Rattle.log.proofs.MapMore.{lookup_map_v, sorted_map_v}
-use Rattle.log.proofs.LogLaws.{Stands}
-use Rattle.log.proofs.Clean.{run_sorted, run_stands}
+use Rattle.ring_log.specs.Key.{Key}
+use Rattle.ring_log.specs.Map.{lookup, Sorted, map_o}
+use Rattle.ring_log.specs.Log.{Placed, page_of, oldest, run}
+use Rattle.ring_log.specs.Ring.{chip_of, head, table_at, table, map_of}
+use Rattle.ring_log.proofs.Window.{page_lt}
+use Rattle.ring_log.proofs.MapLaws.{some≢none}
+use Rattle.ring_log.proofs.MapMore.{lookup_map_v, sorted_map_v}
+use Rattle.ring_log.proofs.LogLaws.{Stands}
+use Rattle.ring_log.proofs.Clean.{run_sorted, run_stands}
 use Rattle.lent.specs.Area.{blocks_of, map_in}
 use Rattle.keys.specs.Walk.{Has}
 

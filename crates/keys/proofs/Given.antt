@@ -9,11 +9,11 @@ use native.Mathlib.Omega.{arith}
 use lib.ListN.{length, take, drop}
 use lib.Seq.{take-append_seam}
 use borrow.Author.Tests.{eq-eqb, ne_eqb, lt-leb}
-use Rattle.log.specs.Key.{Key}
-use Rattle.log.specs.Map.{Map}
-use Rattle.log.specs.Answers.{Lent, refuse, refused, done, gotten}
-use Rattle.log.specs.Answers.{Answer as Says}
-use Rattle.log.proofs.AnswerLaws.{refuse_other, refuse_done, done_never, done_is}
+use Rattle.ring_log.specs.Key.{Key}
+use Rattle.ring_log.specs.Map.{Map}
+use Rattle.ring_log.specs.Answers.{Lent, refuse, refused, done, gotten}
+use Rattle.ring_log.specs.Answers.{Answer as Says}
+use Rattle.ring_log.proofs.AnswerLaws.{refuse_other, refuse_done, done_never, done_is}
 use Rattle.lent.specs.Area.{Sized, map_in, mark, lent_of}
 use Rattle.fetch.specs.Fetched.{GetsBy, Gets}
 use Rattle.lent.specs.declared.Answer.{Answer}

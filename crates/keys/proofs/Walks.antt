@@ -6,10 +6,10 @@ use mathlib.Core.Option.{none, some}
 use Prim.Native.Nat.{ℕ, ◌+◌, ◌≤◌}
 use native.Mathlib.Nat.{zero-add}
 use native.Mathlib.Omega.{arith}
-use Rattle.log.specs.Key.{Key, ◌≺◌, tri<, tri≡, tri>, tri, key≟}
-use Rattle.log.specs.Map.{Map, lookup, Above, Sorted, keys}
-use Rattle.log.proofs.KeyLaws.{≺_irrefl, ≺_trans, ≺_ne, ≺_ne'}
-use Rattle.log.proofs.MapLaws.{some≢none, some_inj, lookup_here, lookup_there}
+use Rattle.ring_log.specs.Key.{Key, ◌≺◌, tri<, tri≡, tri>, tri, key≟}
+use Rattle.ring_log.specs.Map.{Map, lookup, Above, Sorted, keys}
+use Rattle.ring_log.proofs.KeyLaws.{≺_irrefl, ≺_trans, ≺_ne, ≺_ne'}
+use Rattle.ring_log.proofs.MapLaws.{some≢none, some_inj, lookup_here, lookup_there}
 use Rattle.keys.specs.Next.{next_key}
 use Rattle.keys.specs.Walk.{Walk, end, step, Has, Each, times, Rise, Had}
 use Rattle.keys.proofs.After.{next_here, next_there}

@@ -1,10 +1,10 @@
 -- THE NEXT KEY (document 02, request 8). Assumes nothing.
 use Rattle.std.specs.Prelude.{List, [], ◌∷◌, ℕ, leb, length, drop}
 use Rattle.std.proofs.Math.Option.{Option, none, some}
-use Rattle.log.specs.Key.{Key, by_tri, tri}
-use Rattle.log.specs.Map.{Map}
-use Rattle.log.specs.Answers.{Lent, refuse, lent, gotten}
-use Rattle.log.specs.Answers.{Answer as Says}
+use Rattle.ring_log.specs.Key.{Key, by_tri, tri}
+use Rattle.ring_log.specs.Map.{Map}
+use Rattle.ring_log.specs.Answers.{Lent, refuse, lent, gotten}
+use Rattle.ring_log.specs.Answers.{Answer as Says}
 use Rattle.index.specs.Index.{keys_of, Ordered}
 use Rattle.lent.specs.Area.{map_in, lent_of, Kept}
 use Rattle.fetch.specs.Fetched.{Gets}

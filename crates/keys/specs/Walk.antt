@@ -3,8 +3,8 @@
 use Rattle.std.specs.Prelude.{◌≡◌, List, [], ◌∷◌, ℕ, ◌+◌}
 use Rattle.std.proofs.Math.Logic.{ite}
 use Rattle.std.proofs.Math.Option.{none, some}
-use Rattle.log.specs.Key.{Key, ◌≺◌, key≟}
-use Rattle.log.specs.Map.{Map, lookup}
+use Rattle.ring_log.specs.Key.{Key, ◌≺◌, key≟}
+use Rattle.ring_log.specs.Map.{Map, lookup}
 use Rattle.keys.specs.Next.{next_key}
 
 -- A WALK FROM k: the maps at its calls, of which there is at least one, and the keys that they gave. Each call is given the key that the one before it gave, the first one k;

@@ -1,8 +1,10 @@
 // The keys in their order, one by one (request 8 of document 02): given a key, or none, the next larger key that has a value. The definitions are in specs/Next.antt;
 // what a walk from none to the end gives, whatever happens to the map on the way, is in specs/Walk.antt and proofs/Walks.antt, and of histories in the crate `histories`.
+#![tactic(auto)]
+
 ghost use Rattle.std.specs.Prelude.{◌≤◌, length, take};
 ghost use Rattle.std.proofs.Math.Option.{some};
-ghost use Rattle.log.specs.Answers.{gotten};
+ghost use Rattle.ring_log.specs.Answers.{gotten};
 ghost use Rattle.fetch.specs.Fetched.{Got, Gets, Fetches};
 ghost use Rattle.lent.specs.Area.{map_in};
 ghost use Rattle.keys.specs.Next.{next_key, HandsFrom, NextEnds};

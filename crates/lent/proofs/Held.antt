@@ -5,11 +5,11 @@ use Prim.Native.Nat.{ℕ, ◌≤◌, ◌<◌}
 use native.Mathlib.Omega.{arith}
 use lib.ListN.{length, take, drop, get_or, length-drop}
 use lib.Seq.{length-take-le}
-use Rattle.log.specs.Log.{Placed}
-use Rattle.log.specs.Ring.{Chip, chip_of, table, map_of}
-use Rattle.log.proofs.MapMore.{length_map_v}
-use Rattle.log.proofs.Index.{pages_length}
-use Rattle.log.proofs.RingLaws.{next_le}
+use Rattle.ring_log.specs.Log.{Placed}
+use Rattle.ring_log.specs.Ring.{Chip, chip_of, table, map_of}
+use Rattle.ring_log.proofs.MapMore.{length_map_v}
+use Rattle.ring_log.proofs.Index.{pages_length}
+use Rattle.ring_log.proofs.RingLaws.{next_le}
 use Rattle.lent.specs.Area.{blocks_of, Sized, map_in, Holds}
 
 -- what an area that holds says of its words

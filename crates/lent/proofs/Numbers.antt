@@ -8,9 +8,9 @@ use lib.Dec.{eqb, leb}
 use lib.ListN.{length}
 use borrow.Author.Tests.{eq-eqb, ne_eqb, le-leb, lt-leb, leb-true, eqb-true, not-false}
 use Rattle.page.proofs.All.{and_left, and_right}
-use Rattle.log.specs.Ring.{most_blocks}
-use Rattle.log.specs.Answers.{Lent, sizes_test, refused, refuse, lent, keyed}
-use Rattle.log.specs.Answers.{Answer as Says}
+use Rattle.ring_log.specs.Ring.{most_blocks}
+use Rattle.ring_log.specs.Answers.{Lent, sizes_test, refused, refuse, lent, keyed}
+use Rattle.ring_log.specs.Answers.{Answer as Says}
 use Rattle.lent.specs.Area.{blocks_of, Sized, Checked, mark, lent_of, Holds}
 use Rattle.lent.specs.Tested.{number, lent_number, key_number, due, Tested}
 use Rattle.lent.specs.declared.Answer.TheVariants.{Done, Refused}

@@ -1,9 +1,9 @@
 -- WHAT IS LENT, and what the work area says: before a call c are the chip's bytes, f the number of the fault script and w the words of the work area; after
 -- it c', f' and w'. Every contract of a call speaks in these words. Assumes nothing.
 use Rattle.std.specs.Prelude.{false, ◌||◌, List, ◌≡◌, ℕ, ◌≤◌, ◌<◌, ◌*◌, ◌+◌, ◌/◌, eqb, length, take, drop, get_or}
-use Rattle.log.specs.Answers.{Lent}
-use Rattle.log.specs.Map.{Map}
-use Rattle.log.specs.Ring.{chip_of, Ring, map_of, room, most_blocks, Ready}
+use Rattle.ring_log.specs.Answers.{Lent}
+use Rattle.ring_log.specs.Map.{Map}
+use Rattle.ring_log.specs.Ring.{chip_of, Ring, map_of, room, most_blocks, Ready}
 
 -- B, for a chip of the bytes c
 abbrev pub blocks_of : List ℕ → ℕ

@@ -1,7 +1,7 @@
 -- THE REFUSALS THAT NEED NO SEARCH, as numbers, in document 01's order: 5, 7 and 8 of what is lent, then 1 of the key. Assumes nothing.
 use Rattle.std.specs.Prelude.{Bool, true, false, not, ◌||◌, List, ◌≡◌, ℕ, ◌<◌, zero, suc, leb, eqb, length}
-use Rattle.log.specs.Answers.{refused, Lent, sizes_test}
-use Rattle.log.specs.Answers.{Answer as Says}
+use Rattle.ring_log.specs.Answers.{refused, Lent, sizes_test}
+use Rattle.ring_log.specs.Answers.{Answer as Says}
 use Rattle.lent.specs.Area.{Checked, mark, lent_of, Kept}
 
 -- the number n where the test holds; else k, which comes after it

@@ -3,8 +3,10 @@
 //
 // The work area is lent: word 0 is the mark (1: a start made it ready; 2: the power has gone since), 1 the head, 2 its next place, 3 the number of keys,
 // 4 the cursor of cleaning; from word 16 on stands the index.
+#![tactic(auto)]
+
 ghost use Rattle.std.specs.Prelude.{false, ◌≡◌, ◌≤◌, ◌<◌, length, set};
-ghost use Rattle.log.specs.Answers.{sizes_test};
+ghost use Rattle.ring_log.specs.Answers.{sizes_test};
 ghost use Rattle.lent.specs.Area.{blocks_of, Sized};
 ghost use Rattle.lent.specs.Tested.{number, key_number, Tested};
 
@@ -38,7 +40,7 @@ pub fn blocks(chip: &[u8], work: &[u32]) -> usize
     if b < 4 {
         return 0;
     }
-    if log::MOST_BLOCKS < b {
+    if ring_log::MOST_BLOCKS < b {
         return 0;
     }
     if work.len() < 16 * b + 16 {
@@ -70,10 +72,10 @@ pub fn unready(chip: &[u8], work: &[u32], fuse: &u64) -> u32
     if b <= index::word(work[1]) {
         return 8;
     }
-    if log::PLACES < index::word(work[2]) {
+    if ring_log::PLACES < index::word(work[2]) {
         return 8;
     }
-    if log::room(b) < index::word(work[3]) {
+    if ring_log::room(b) < index::word(work[3]) {
         return 8;
     }
     0

@@ -11,17 +11,17 @@ use Rattle.chip.specs.Play.{Op, erase, Writable, Did}
 use Rattle.chip.proofs.Power.{write_stayed, write_went, erase_stayed}
 use Rattle.chip.proofs.Plays.{did_none, did_erase, did_write, did_meant, did_more, did_then}
 use Rattle.record.specs.Record.{rec_at, seal_page}
-use Rattle.log.specs.Log.{oldest, run, pages, FIRST}
-use Rattle.log.specs.Ring.{Chip, chip_of, sealed, spare, table, map_of, room, Ready}
-use Rattle.log.specs.Call.{State, resting, copying, cursor, Goes, Block, Erased, Wrote, CutWrote, Leads, Cut}
-use Rattle.log.specs.Opening.{Opening, fresh, Moved}
-use Rattle.log.proofs.Index.{pages_length}
-use Rattle.log.proofs.Opening.{opening_erased, opening_fresh, opening_map, opening_ready}
-use Rattle.log.proofs.CallCost.{moved_start, moved_few, moved_open}
-use Rattle.log.proofs.RingLaws.{next_le}
-use Rattle.log.proofs.IndexSteps.{erased_keeps, first_keeps}
-use Rattle.log.proofs.Bytes.{wrote_seal, cut_seal, block_erased, whole_erased}
-use Rattle.log.proofs.Walk.{goes_none, goes_then, goes_ends, leads_back, leads_cut, leads_erase, cut_erase, leads_first, leads_seal, cut_sealed}
+use Rattle.ring_log.specs.Log.{oldest, run, pages, FIRST}
+use Rattle.ring_log.specs.Ring.{Chip, chip_of, sealed, spare, table, map_of, room, Ready}
+use Rattle.ring_log.specs.Call.{State, resting, copying, cursor, Goes, Block, Erased, Wrote, CutWrote, Leads, Cut}
+use Rattle.ring_log.specs.Opening.{Opening, fresh, Moved}
+use Rattle.ring_log.proofs.Index.{pages_length}
+use Rattle.ring_log.proofs.Opening.{opening_erased, opening_fresh, opening_map, opening_ready}
+use Rattle.ring_log.proofs.CallCost.{moved_start, moved_few, moved_open}
+use Rattle.ring_log.proofs.RingLaws.{next_le}
+use Rattle.ring_log.proofs.IndexSteps.{erased_keeps, first_keeps}
+use Rattle.ring_log.proofs.Bytes.{wrote_seal, cut_seal, block_erased, whole_erased}
+use Rattle.ring_log.proofs.Walk.{goes_none, goes_then, goes_ends, leads_back, leads_cut, leads_erase, cut_erase, leads_first, leads_seal, cut_sealed}
 use Rattle.clean.specs.declared.Turn.{Turn}
 use Rattle.clean.specs.declared.Turn.TheVariants.{On, Dark, Dirty}
 use Rattle.opening.specs.declared.Room.TheVariants.{Place, Gone, Stuck}

@@ -3,10 +3,10 @@
 use Rattle.std.specs.Prelude.{◌≡◌, List, Bool, true, false, ℕ, suc, ◌+◌, ◌-◌, ◌*◌, ◌≤◌, ◌<◌, length, take}
 use Rattle.chip.specs.Play.{Op, Did}
 use Rattle.record.specs.Record.{rec_at}
-use Rattle.log.specs.Log.{oldest, run, pages}
-use Rattle.log.specs.Ring.{Chip, chip_of, spare, Ring, next, table, map_of, room, Ready}
-use Rattle.log.specs.Call.{State, resting, cursor, Goes, Ends, Leads, LeadsBack, Cut}
-use Rattle.log.specs.Opening.{Opening, fresh, Moved}
+use Rattle.ring_log.specs.Log.{oldest, run, pages}
+use Rattle.ring_log.specs.Ring.{Chip, chip_of, spare, Ring, next, table, map_of, room, Ready}
+use Rattle.ring_log.specs.Call.{State, resting, cursor, Goes, Ends, Leads, LeadsBack, Cut}
+use Rattle.ring_log.specs.Opening.{Opening, fresh, Moved}
 use Rattle.clean.specs.declared.Turn.{Turn}
 use Rattle.clean.specs.declared.Turn.TheVariants.{On, Dark, Dirty}
 use Rattle.opening.specs.declared.Room.{Room}

@@ -1,9 +1,11 @@
 // Opening the next block: the spare is erased, the live values of the oldest block are copied to it, and the head is sealed; then the spare is the head.
 // Each function says with Did what it did to the chip. Whatever stands in the index and on the chip, no call traps, and no page is written that isn't blank.
+#![tactic(auto)]
+
 ghost use Rattle.std.specs.Prelude.{◌+◌, ◌-◌, ◌*◌, ◌%◌, ◌≤◌, ◌<◌, ◌≡◌, true, length};
 ghost use Rattle.chip.specs.Chip.{blank_at};
-ghost use Rattle.log.specs.Log.{FIRST};
-ghost use Rattle.log.specs.Ring.{most_blocks};
+ghost use Rattle.ring_log.specs.Log.{FIRST};
+ghost use Rattle.ring_log.specs.Ring.{most_blocks};
 ghost use Rattle.clean.specs.Ends.{Sane, Few};
 ghost use Rattle.clean.specs.Steps.{Turns};
 ghost use Rattle.opening.specs.Ends.{RoomWithin};
@@ -28,7 +30,7 @@ fn clear_spare(
     if first {
         return true;
     }
-    let spare = log::block_after(h, 1, b);
+    let spare = ring_log::block_after(h, 1, b);
     chip::erase(chip, spare, fuse, noise);
     if *fuse == 0 {
         return false;
@@ -42,7 +44,7 @@ fn seal_head(chip: &mut [u8], b: usize, h: usize, k: usize, fuse: &mut u64, nois
     ensures right { Seals b h k noise.now chip.old fuse.old chip.new fuse.new result }
     ensures few { Few result }
 {
-    let p = 16 * h + log::PLACES;
+    let p = 16 * h + ring_log::PLACES;
     if !chip::blank_at(chip, p) {
         return Turn::Dirty;
     }
@@ -113,8 +115,8 @@ pub fn open_next(
     ensures right { Opens b n h noise.now chip.old fuse.old index.old chip.new fuse.new index.new result }
     ensures few { Few result }
 {
-    let oldest = log::block_after(h, 2, b);
-    let first = chip::blank_at(chip, 16 * oldest + log::PLACES);
+    let oldest = ring_log::block_after(h, 2, b);
+    let first = chip::blank_at(chip, 16 * oldest + ring_log::PLACES);
     if clear_spare(chip, b, h, fuse, noise, first) {
         return fill_spare(chip, index, n, b, h, fuse, noise, first);
     }
@@ -133,10 +135,10 @@ pub enum Room {
 fn back(passed: usize) -> usize
     ensures { result ≡ passed - 15 + FIRST }
 {
-    if passed < log::PLACES {
-        log::FIRST
+    if passed < ring_log::PLACES {
+        ring_log::FIRST
     } else {
-        passed - log::RECORDS
+        passed - ring_log::RECORDS
     }
 }
 
@@ -144,10 +146,10 @@ fn back(passed: usize) -> usize
 fn fewer(left: usize, passed: usize) -> usize
     ensures { result ≡ left - (15 - passed) }
 {
-    if log::PLACES <= passed {
+    if ring_log::PLACES <= passed {
         return left;
     }
-    let made = log::PLACES - passed;
+    let made = ring_log::PLACES - passed;
     if left < made { 0 } else { left - made }
 }
 
@@ -168,12 +170,12 @@ pub fn make_room(
     ensures within { RoomWithin b passed0 left0 result }
 {
     let mut h = h0;
-    let mut next = log::PLACES;
+    let mut next = ring_log::PLACES;
     let mut passed = passed0;
     let mut left = left0;
     let mut more = b - 2;
     while 0 < more {
-        if next < log::PLACES {
+        if next < ring_log::PLACES {
             return Room::Place(h, next, passed, left);
         }
         match open_next(chip, index, n, b, h, fuse, noise) {
@@ -187,12 +189,12 @@ pub fn make_room(
                 return Room::Stuck;
             }
         }
-        h = log::block_after(h, 1, b);
+        h = ring_log::block_after(h, 1, b);
         left = fewer(left, passed);
         passed = back(passed);
         more -= 1;
     }
-    if next < log::PLACES {
+    if next < ring_log::PLACES {
         return Room::Place(h, next, passed, left);
     }
     Room::Stuck

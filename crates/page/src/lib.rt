@@ -2,6 +2,8 @@
 // The definitions are in specs/Page.antt and specs/Look.antt; specs/Lanes.antt says in which order bits are counted.
 // A test for blank leaves at the first run of 64 bytes that has another byte. Within a run, and in the tests for sound, a loop passes over all bytes:
 // so the compiler vectorises it.
+#![tactic(auto)]
+
 ghost use Rattle.std.specs.Prelude.{◌≡◌, ◌+◌, ◌-◌, ◌*◌, ◌≤◌, ◌<◌, eqb, length, take};
 ghost use Rattle.std.specs.Int.Bits.{bit_and, bit_or, bit_xor};
 ghost use Rattle.std.specs.Int.Count.{ones};

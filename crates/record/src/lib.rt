@@ -1,6 +1,8 @@
 // What a page says: a value that was put, a note of a deletion, or nothing; and the pages of a record and of a seal.
 // The layout is in docs/FORMAT.md, the definitions in specs/Record.antt. What is looked at is a page, or its beginning, as `chip` read it.
 // Any bytes say something or nothing; no bytes make a call trap.
+#![tactic(auto)]
+
 ghost use Rattle.std.specs.Prelude.{◌≡◌, ◌+◌, ◌*◌, ◌≤◌, min, length};
 ghost use Rattle.chip.specs.Chip.{page_at, splice};
 ghost use Rattle.record.specs.Record.{most_value, longest, is_value, is_note, rec_of, key_on, value_length, value_on, value_at, new_page, record_of, record_page, seal_page, anew};

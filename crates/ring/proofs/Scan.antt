@@ -9,8 +9,8 @@ use lib.Dec.{eqb}
 use borrow.Author.Tests.{eqb-true, eqb-false, le-leb, eq-eqb, ne_eqb, not-true, not-false}
 use Rattle.page.specs.Page.{all}
 use Rattle.page.proofs.All.{and_true, and_left, and_right, all_at, all_of, all_fails, all_more}
-use Rattle.log.specs.Ring.{Chip, sealed, head_from, head, first_test, later_test, ring_test, next_to}
-use Rattle.log.specs.Log.{page_of}
+use Rattle.ring_log.specs.Ring.{Chip, sealed, head_from, head, first_test, later_test, ring_test, next_to}
+use Rattle.ring_log.specs.Log.{page_of}
 use Rattle.ring.specs.Seals.{one, counted, head_by, sealed_below, blank_from, Begins}
 
 -- ---- tests of all blocks, or of all pages

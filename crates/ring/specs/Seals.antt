@@ -2,8 +2,8 @@
 use Rattle.std.specs.Prelude.{Bool, true, false, cond, not, ◌&&◌, ◌≡◌, ℕ, zero, suc, ◌+◌, ◌*◌, ◌≤◌, ◌<◌, eqb}
 use Rattle.std.proofs.Math.Option.{none as nothing}
 use Rattle.page.specs.Page.{all}
-use Rattle.log.specs.Log.{page_of}
-use Rattle.log.specs.Ring.{Chip, sealed, head, ring_test}
+use Rattle.ring_log.specs.Log.{page_of}
+use Rattle.ring_log.specs.Ring.{Chip, sealed, head, ring_test}
 use Rattle.ring.specs.declared.Seals.{Seals}
 
 -- ---- ONE LOOK AT EACH SEAL

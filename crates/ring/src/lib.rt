@@ -1,8 +1,10 @@
 // The ring (document 03, section 3): its head, its next place, and where its log begins, found by the seals. Nothing is written. The ring itself is defined in
 // the crate `log` (specs/Ring.antt), what these functions answer in specs/Seals.antt.
+#![tactic(auto)]
+
 ghost use Rattle.std.specs.Prelude.{not, ◌≡◌, ◌≤◌, ◌<◌, ◌*◌, ◌+◌, ◌-◌, length};
 ghost use Rattle.chip.specs.Chip.{blank_at};
-ghost use Rattle.log.specs.Ring.{chip_of, most_blocks, next_to};
+ghost use Rattle.ring_log.specs.Ring.{chip_of, most_blocks, next_to};
 ghost use Rattle.ring.specs.Seals.{one, head_by, SealsSay, blank_from, Begins};
 
 // Whether block x is sealed.
@@ -10,7 +12,7 @@ fn sealed(chip: &[u8], x: usize) -> bool
     requires { 4096 * x + 4096 ≤ length chip.now }
     ensures { result ≡ not (blank_at chip.now (16 * x + 15)) }
 {
-    !chip::blank_at(chip, 16 * x + log::PLACES)
+    !chip::blank_at(chip, 16 * x + ring_log::PLACES)
 }
 
 // What the seals say: the head, whether block 0 is sealed, and how many blocks are.
@@ -86,7 +88,7 @@ pub fn find_begin(chip: &[u8], b: usize, seals: Seals) -> usize
     if (h == 0) & seals.first {
         return 0;
     }
-    let spare = log::block_after(h, 1, b);
+    let spare = ring_log::block_after(h, 1, b);
     if seals.count + 2 == plus(b, sealed(chip, spare)) {
         return 2;
     }
@@ -105,7 +107,7 @@ pub fn find_next(chip: &[u8], h: usize) -> usize
     ensures within { result ≤ 15 }
     ensures right { result ≡ next_to (chip_of chip.now) h 15 }
 {
-    let mut next = log::PLACES;
+    let mut next = ring_log::PLACES;
     while 0 < next {
         if !chip::blank_at(chip, 16 * h + next - 1) {
             return next;

@@ -10,11 +10,11 @@ use Rattle.record.specs.Record.{Rec, rec_at, record_of, key_at}
 use Rattle.record.specs.Kinds.{kind_of}
 use Rattle.record.specs.declared.Kind.TheVariants.{Value, Note, Nothing}
 use Rattle.record.proofs.Reading.{says_key, kind_value, kind_note, kind_nothing}
-use Rattle.log.specs.Key.{Key}
-use Rattle.log.specs.Log.{placed, oldest, run, pages}
-use Rattle.log.specs.Ring.{chip_of, table_at}
-use Rattle.log.proofs.Window.{page_at_lem}
-use Rattle.log.proofs.Start.{run_empty, run_none, run_own}
+use Rattle.ring_log.specs.Key.{Key}
+use Rattle.ring_log.specs.Log.{placed, oldest, run, pages}
+use Rattle.ring_log.specs.Ring.{chip_of, table_at}
+use Rattle.ring_log.proofs.Window.{page_at_lem}
+use Rattle.ring_log.proofs.Start.{run_empty, run_none, run_own}
 use Rattle.index.specs.Index.{keys_of, Ordered}
 use Rattle.index.specs.Answers.{Finds, put_at, take_out}
 use Rattle.index.specs.declared.Found.{Found}

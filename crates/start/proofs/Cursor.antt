@@ -10,22 +10,22 @@ use native.Mathlib.Omega.{arith}
 use lib.ListN.{length, take, get_or}
 use lib.Seq.{get_or-take}
 use borrow.Author.Tests.{le-leb, lt-leb}
-use Rattle.log.specs.Key.{Key, key≟}
-use Rattle.log.specs.Map.{Map, lookup}
-use Rattle.log.specs.Log.{Placed, page_of, oldest, pages, U}
-use Rattle.log.specs.Ring.{Chip, Ring, next, table}
-use Rattle.log.specs.Wear.{age}
-use Rattle.log.specs.Opening.{key_at, none_there}
-use Rattle.log.specs.Timely.{log_end, Behind, Oldest}
-use Rattle.log.proofs.MapLaws.{some_inj, some≢none, lookup_here, lookup_there}
-use Rattle.log.proofs.Place.{found_lookup}
-use Rattle.log.proofs.Window.{page_block, page_place}
-use Rattle.log.proofs.LogLaws.{Stands}
-use Rattle.log.proofs.Clean.{run_stands}
-use Rattle.log.proofs.Index.{pages_at}
-use Rattle.log.proofs.RingLaws.{next_le}
-use Rattle.log.proofs.Steps.{table_at_lem}
-use Rattle.log.proofs.Append.{table_sorted, place_under}
+use Rattle.ring_log.specs.Key.{Key, key≟}
+use Rattle.ring_log.specs.Map.{Map, lookup}
+use Rattle.ring_log.specs.Log.{Placed, page_of, oldest, pages, U}
+use Rattle.ring_log.specs.Ring.{Chip, Ring, next, table}
+use Rattle.ring_log.specs.Wear.{age}
+use Rattle.ring_log.specs.Opening.{key_at, none_there}
+use Rattle.ring_log.specs.Timely.{log_end, Behind, Oldest}
+use Rattle.ring_log.proofs.MapLaws.{some_inj, some≢none, lookup_here, lookup_there}
+use Rattle.ring_log.proofs.Place.{found_lookup}
+use Rattle.ring_log.proofs.Window.{page_block, page_place}
+use Rattle.ring_log.proofs.LogLaws.{Stands}
+use Rattle.ring_log.proofs.Clean.{run_stands}
+use Rattle.ring_log.proofs.Index.{pages_at}
+use Rattle.ring_log.proofs.RingLaws.{next_le}
+use Rattle.ring_log.proofs.Steps.{table_at_lem}
+use Rattle.ring_log.proofs.Append.{table_sorted, place_under}
 use Rattle.start.specs.Least.{blocks_after, log_place_of, lesser, least_of}
 
 -- block x is before block t, or not

@@ -9,18 +9,18 @@ use lib.ListN.{length, take, drop, set, get_or, length-set}
 use lib.Seq.{length-take-le, take-take, drop-set-lt, get_or-set_same, get_or-set_other}
 use borrow.Author.Tests.{eq-eqb, ne_eqb, le-leb, lt-leb}
 use borrow.Rule.Slice.PartMut.{mid_of, put_mid, same_len_mid, mid_len}
-use Rattle.log.specs.Map.{Map}
-use Rattle.log.specs.Log.{pages, U}
-use Rattle.log.specs.Ring.{chip_of, head, Ring, ring_test, table_at, table, next, room}
-use Rattle.log.specs.Answers.{refuse, done, start_answer, sizes_test}
-use Rattle.log.specs.Answers.{Answer as Says}
-use Rattle.log.proofs.RingLaws.{test_ring}
-use Rattle.log.proofs.Index.{pages_length}
+use Rattle.ring_log.specs.Map.{Map}
+use Rattle.ring_log.specs.Log.{pages, U}
+use Rattle.ring_log.specs.Ring.{chip_of, head, Ring, ring_test, table_at, table, next, room}
+use Rattle.ring_log.specs.Answers.{refuse, done, start_answer, sizes_test}
+use Rattle.ring_log.specs.Answers.{Answer as Says}
+use Rattle.ring_log.proofs.RingLaws.{test_ring}
+use Rattle.ring_log.proofs.Index.{pages_length}
 use Rattle.lent.specs.Area.{blocks_of, Sized, map_in, mark, passed, lent_to_start, Holds}
 use Rattle.start.specs.Started.{Starts}
 use Rattle.start.specs.Least.{least_of}
 use Rattle.start.proofs.Cursor.{least_take, least_oldest}
-use Rattle.log.specs.Timely.{log_end, Oldest}
+use Rattle.ring_log.specs.Timely.{log_end, Oldest}
 use Rattle.start.specs.Replay.{ReadyFor, ReadiesBy, Readies}
 use Rattle.lent.proofs.Area.{downed, downed_1, downed_2, downed_3, downed_4, downed_16, back_long, back_index}
 use Rattle.lent.proofs.Numbers.{sizes_hold}

@@ -1,6 +1,6 @@
 -- WHERE THE CURSOR OF CLEANING BEGINS: at the least log place of a value, by the index; at the log's end if there is none. Assumes nothing.
 use Rattle.std.specs.Prelude.{cond, List, ℕ, zero, suc, ◌+◌, ◌-◌, ◌*◌, ◌/◌, ◌%◌, leb, get_or}
-use Rattle.log.specs.Log.{U}
+use Rattle.ring_log.specs.Log.{U}
 
 -- how many blocks after block t block x comes, in a ring of b
 abbrev pub blocks_after : ℕ → ℕ → ℕ → ℕ

@@ -1,10 +1,10 @@
 -- HOW START ENDS (document 01, section 3). Assumes nothing.
 use Rattle.std.specs.Prelude.{List, ◌≢◌, ◌≡◌, ℕ, length, get_or}
-use Rattle.log.specs.Answers.{refused, done, start_answer}
-use Rattle.log.specs.Answers.{Answer as Says}
-use Rattle.log.specs.Map.{Map}
-use Rattle.log.specs.Ring.{chip_of}
-use Rattle.log.specs.Timely.{Oldest}
+use Rattle.ring_log.specs.Answers.{refused, done, start_answer}
+use Rattle.ring_log.specs.Answers.{Answer as Says}
+use Rattle.ring_log.specs.Map.{Map}
+use Rattle.ring_log.specs.Ring.{chip_of}
+use Rattle.ring_log.specs.Timely.{Oldest}
 use Rattle.lent.specs.Area.{blocks_of, mark, passed, lent_to_start, Holds}
 use Rattle.lent.specs.declared.Answer.{Answer}
 use Rattle.lent.specs.declared.Answer.TheVariants.{Done, Refused}

@@ -1,8 +1,10 @@
 // Start (document 01, section 3): the ring is found by its seals (the crate `ring`), and its log replayed into the index. It writes nothing to the chip, and
 // requires nothing of its caller. How it ends is said in specs/Started.antt.
+#![tactic(auto)]
+
 ghost use Rattle.std.specs.Prelude.{◌≡◌, ◌≤◌, ◌<◌, ◌*◌, ◌+◌, ◌-◌, length, take, get_or};
-ghost use Rattle.log.specs.Log.{pages};
-ghost use Rattle.log.specs.Ring.{chip_of, table_at, most_blocks};
+ghost use Rattle.ring_log.specs.Log.{pages};
+ghost use Rattle.ring_log.specs.Ring.{chip_of, table_at, most_blocks};
 ghost use Rattle.lent.specs.Area.{blocks_of, Sized};
 ghost use Rattle.ring.specs.Seals.{Begins};
 ghost use Rattle.start.specs.Least.{blocks_after, log_place_of, lesser, least_of};
@@ -41,7 +43,7 @@ fn replay_block(chip: &[u8], index: &mut [u32], n0: usize, x: usize) -> usize
 {
     let mut n = n0;
     let mut j = 0;
-    while j < log::PLACES {
+    while j < ring_log::PLACES {
         n = replay_page(chip, index, n, 16 * x + j);
         j += 1;
     }
@@ -58,7 +60,7 @@ fn replay(chip: &[u8], index: &mut [u32], b: usize, h: usize, begin: usize) -> u
     let mut n = 0;
     let mut k = begin;
     while k <= b {
-        n = replay_block(chip, index, n, log::block_after(h, k, b));
+        n = replay_block(chip, index, n, ring_log::block_after(h, k, b));
         k += 1;
     }
     n
@@ -78,7 +80,7 @@ fn log_place(t: u32, b: u32, q: u32) -> u32
     requires { (t < b) × (b ≤ most_blocks) }
     ensures { result ≡ log_place_of t b q }
 {
-    log::RECORDS as u32 * blocks_after(t, b, q / 16) + q % 16
+    ring_log::RECORDS as u32 * blocks_after(t, b, q / 16) + q % 16
 }
 
 // The lesser of two numbers.
@@ -110,11 +112,11 @@ fn make_ready(chip: &[u8], work: &mut [u32], b: usize, h: usize, begin: usize) -
 {
     let next = ring::find_next(chip, h);
     let n = replay(chip, &mut work[16..], b, h, begin);
-    if log::room(b) < n {
+    if ring_log::room(b) < n {
         return Answer::Refused(8);
     }
-    let oldest = log::block_after(h, 2, b);
-    let end = log::RECORDS * (b - 2) + next;
+    let oldest = ring_log::block_after(h, 2, b);
+    let end = ring_log::RECORDS * (b - 2) + next;
     let passed = least(&work[16..], n, oldest as u32, b as u32, end as u32);
     lent::note_down(work, h as u32, next as u32, n as u32, passed);
     work[0] = 1;

@@ -1,5 +1,7 @@
 // A start that also says what it saw (request 2 of document 02): how many pages are blank, sound and spoilt, and where the first spoilt one is.
 // The store's own start stays as it is. The definitions are in specs/Seen.antt.
+#![tactic(auto)]
+
 ghost use Rattle.std.specs.Prelude.{◌≡◌, ◌*◌, ◌/◌, ◌≤◌, ◌<◌, length};
 ghost use Rattle.page.specs.declared.Look.TheVariants.{Spoilt};
 ghost use Rattle.start.specs.Started.{StartEnds};

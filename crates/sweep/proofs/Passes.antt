@@ -11,19 +11,19 @@ use Rattle.chip.specs.Chip.{page_at}
 use Rattle.chip.specs.Play.{Op, write}
 use Rattle.chip.proofs.Plays.{did_none, did_more}
 use Rattle.record.specs.Record.{Rec, rec_of, rec_at, anew}
-use Rattle.log.specs.Map.{Map, lookup}
-use Rattle.log.specs.Log.{Placed, page_of, FIRST, U, log_place, pages}
-use Rattle.log.specs.Ring.{chip_of, next, table, room, Ready}
-use Rattle.log.specs.Call.{resting, cursor, Wrote, CutWrote, on, Looks, Live, Dead, Goes, Ends}
-use Rattle.log.specs.Opening.{key_at, none_there}
-use Rattle.log.proofs.Window.{page_at_lem}
-use Rattle.log.proofs.RingLaws.{next_blank}
-use Rattle.log.proofs.Index.{pages_length}
-use Rattle.log.proofs.Steps.{Written, table_at_lem}
-use Rattle.log.proofs.Append.{place}
-use Rattle.log.proofs.Crash.{append_written}
-use Rattle.log.proofs.Carry.{carry_map, carry_replaces, carry_ready}
-use Rattle.log.proofs.Walk.{goes_pass, goes_carry, ends_carry}
+use Rattle.ring_log.specs.Map.{Map, lookup}
+use Rattle.ring_log.specs.Log.{Placed, page_of, FIRST, U, log_place, pages}
+use Rattle.ring_log.specs.Ring.{chip_of, next, table, room, Ready}
+use Rattle.ring_log.specs.Call.{resting, cursor, Wrote, CutWrote, on, Looks, Live, Dead, Goes, Ends}
+use Rattle.ring_log.specs.Opening.{key_at, none_there}
+use Rattle.ring_log.proofs.Window.{page_at_lem}
+use Rattle.ring_log.proofs.RingLaws.{next_blank}
+use Rattle.ring_log.proofs.Index.{pages_length}
+use Rattle.ring_log.proofs.Steps.{Written, table_at_lem}
+use Rattle.ring_log.proofs.Append.{place}
+use Rattle.ring_log.proofs.Crash.{append_written}
+use Rattle.ring_log.proofs.Carry.{carry_map, carry_replaces, carry_ready}
+use Rattle.ring_log.proofs.Walk.{goes_pass, goes_carry, ends_carry}
 use Rattle.clean.specs.declared.Live as live
 use Rattle.clean.specs.declared.Live.TheVariants.{Yes, No}
 use Rattle.clean.specs.declared.Turn.{Turn}

@@ -7,10 +7,10 @@ use native.Mathlib.Omega.{arith}
 use lib.ListN.{take}
 use Rattle.chip.specs.Play.{Did}
 use Rattle.chip.proofs.Plays.{did_none, did_more, did_then}
-use Rattle.log.specs.Ring.{chip_of, Ready}
-use Rattle.log.specs.Call.{resting, cursor, on, Looks}
-use Rattle.log.specs.Call as call
-use Rattle.log.proofs.Walk.{goes_none, goes_then, goes_ends}
+use Rattle.ring_log.specs.Ring.{chip_of, Ready}
+use Rattle.ring_log.specs.Call.{resting, cursor, on, Looks}
+use Rattle.ring_log.specs.Call as call
+use Rattle.ring_log.proofs.Walk.{goes_none, goes_then, goes_ends}
 use Rattle.clean.specs.declared.Turn.TheVariants.{On, Dark, Dirty}
 use Rattle.sweep.specs.declared.Swept.TheVariants as swept
 use Rattle.sweep.specs.Steps.{Went, Passes, Sweeps}

@@ -1,10 +1,10 @@
 -- Places of the log are looked at, one after another: what each function did to the chip, and where the index is the one that start made (`Ready`), what that
--- was to the ring and to the call (`Goes`, `Ends`: crates/log/specs/Call.antt). Assumes nothing.
+-- was to the ring and to the call (`Goes`, `Ends`: crates/ring_log/specs/Call.antt). Assumes nothing.
 use Rattle.std.specs.Prelude.{◌≡◌, List, ℕ, ◌<◌, take}
 use Rattle.chip.specs.Play.{Op, Did}
-use Rattle.log.specs.Ring.{chip_of, map_of, Ready}
-use Rattle.log.specs.Call.{resting, Cursor, cursor, on, Looks, Goes, Ends}
-use Rattle.log.specs.Call as call
+use Rattle.ring_log.specs.Ring.{chip_of, map_of, Ready}
+use Rattle.ring_log.specs.Call.{resting, Cursor, cursor, on, Looks, Goes, Ends}
+use Rattle.ring_log.specs.Call as call
 use Rattle.clean.specs.declared.Turn.{Turn}
 use Rattle.clean.specs.declared.Turn.TheVariants.{On, Dark, Dirty}
 use Rattle.sweep.specs.declared.Swept.{Swept}

@@ -2,9 +2,11 @@
 // goes on while the cursor is in its zone, the first next + (B - 2) places of the log: what stands there is old enough to be carried without an erase more, and
 // an opening finds little or nothing left to copy. Whatever stands in the index and on the chip, and whatever the cursor is, no call traps, and no page is
 // written that isn't blank. What each function did is said in specs/Steps.antt.
+#![tactic(auto)]
+
 ghost use Rattle.std.specs.Prelude.{◌+◌, ◌-◌, ◌*◌, ◌≤◌, ◌<◌, ◌≡◌};
-ghost use Rattle.log.specs.Log.{page_of, log_place};
-ghost use Rattle.log.specs.Ring.{most_blocks};
+ghost use Rattle.ring_log.specs.Log.{page_of, log_place};
+ghost use Rattle.ring_log.specs.Ring.{most_blocks};
 ghost use Rattle.clean.specs.Ends.{Sane};
 ghost use Rattle.sweep.specs.Ends.{OneMore, SweptWithin};
 ghost use Rattle.sweep.specs.Steps.{Passes, Sweeps};
@@ -17,9 +19,9 @@ fn page_at_log(h: usize, p: usize, b: usize) -> usize
     ensures right { result ≡ page_of b (log_place b (h + b) p) }
     ensures within { 256 * result + 256 ≤ 4096 * b }
 {
-    16 * log::block_after(h, 2 + (p - log::FIRST) / log::RECORDS, b)
-        + log::FIRST
-        + (p - log::FIRST) % log::RECORDS
+    16 * ring_log::block_after(h, 2 + (p - ring_log::FIRST) / ring_log::RECORDS, b)
+        + ring_log::FIRST
+        + (p - ring_log::FIRST) % ring_log::RECORDS
 }
 
 // The place at the cursor is looked at. A live value is carried to place `next` of the head.

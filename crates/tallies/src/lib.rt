@@ -1,4 +1,6 @@
 // The store's calls with random keys, with power that stays, each answer counted.
+#![tactic(auto)]
+
 ghost use Rattle.std.specs.Prelude.{◌<◌};
 
 use calls::{PUT, START};

@@ -7,11 +7,11 @@ use native.Mathlib.Omega.{arith}
 use lib.ListN.{length, take}
 use Rattle.chip.specs.Play.{Op, Did}
 use Rattle.chip.proofs.Plays.{did_more, did_then}
-use Rattle.log.specs.Ring.{chip_of, next, map_of, Ready}
-use Rattle.log.specs.Call.{resting, Cursor, cursor, begin, Goes}
-use Rattle.log.specs.Call as call
-use Rattle.log.proofs.RingLaws.{next_le}
-use Rattle.log.proofs.Walk.{goes_then, goes_ends}
+use Rattle.ring_log.specs.Ring.{chip_of, next, map_of, Ready}
+use Rattle.ring_log.specs.Call.{resting, Cursor, cursor, begin, Goes}
+use Rattle.ring_log.specs.Call as call
+use Rattle.ring_log.proofs.RingLaws.{next_le}
+use Rattle.ring_log.proofs.Walk.{goes_then, goes_ends}
 use Rattle.sweep.specs.Steps.{Sweeps}
 use Rattle.sweep.specs.declared.Swept.TheVariants as swept
 use Rattle.opening.specs.Ends.{RoomWithinBy, RoomWithin}

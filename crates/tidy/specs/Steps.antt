@@ -1,9 +1,9 @@
--- What was done to the chip before the record, and where memory is ready for the chip, what that was to the call (`Goes`, `Ends`, crates/log/specs/Call.antt).
+-- What was done to the chip before the record, and where memory is ready for the chip, what that was to the call (`Goes`, `Ends`, crates/ring_log/specs/Call.antt).
 -- Assumes nothing.
 use Rattle.std.specs.Prelude.{◌≡◌, List, ℕ, ◌<◌, take}
 use Rattle.chip.specs.Play.{Op, Did}
-use Rattle.log.specs.Ring.{chip_of, map_of, Ready}
-use Rattle.log.specs.Call.{resting, Cursor, cursor, Swept, Goes, Ends}
+use Rattle.ring_log.specs.Ring.{chip_of, map_of, Ready}
+use Rattle.ring_log.specs.Call.{resting, Cursor, cursor, Swept, Goes, Ends}
 use Rattle.opening.specs.declared.Room.{Room}
 use Rattle.opening.specs.declared.Room.TheVariants.{Place, Gone, Stuck}
 

@@ -1,8 +1,10 @@
 // A place for the record that a put or a delete writes: first a few places behind the cursor are swept, and where the head is full the next block is opened and
 // the rest of them swept. Whatever stands in the index and on the chip, no call traps, and no page is written that isn't blank. What each function did is said
 // in specs/Steps.antt.
+#![tactic(auto)]
+
 ghost use Rattle.std.specs.Prelude.{◌+◌, ◌-◌, ◌*◌, ◌≤◌, ◌<◌};
-ghost use Rattle.log.specs.Call.{cursor, begin};
+ghost use Rattle.ring_log.specs.Call.{cursor, begin};
 ghost use Rattle.clean.specs.Ends.{Sane};
 ghost use Rattle.opening.specs.Ends.{RoomWithin};
 ghost use Rattle.tidy.specs.Steps.{Places};
@@ -85,12 +87,12 @@ pub fn make_place(
         next,
         passed,
         LOOKS,
-        log::PLACES,
+        ring_log::PLACES,
         fuse,
         noise,
     ) {
         Swept::To(x, p, l) => {
-            if x < log::PLACES {
+            if x < ring_log::PLACES {
                 return Room::Place(h, x, p, l);
             }
             make_more(chip, index, n, b, h, p, l, fuse, noise)

@@ -1,6 +1,8 @@
 // Erase and write under the fault scripts 0 (the power is gone), 1 (it goes during the operation) and 2 (it stays), each with noise of all zeros,
 // of all ones, mixed, and forged: a block full of sound pages. For each: the page's first byte and its last two, the sums of the page's halves, what the
 // page is, what is left of the script, and how many bytes elsewhere changed.
+#![tactic(auto)]
+
 ghost use Rattle.std.specs.Prelude.{◌≡◌, ◌+◌, ◌*◌, ◌≤◌, length};
 
 use record::Kind;

@@ -3,6 +3,8 @@
 // a blank chip with the power failing at that operation; the store is started again, and its map must be the one before the interrupted call or the one after
 // it. Then the history is run to its end. Second cuts: after the start that follows such a cut, the interrupted call is made again with the power failing at
 // each of its operations in turn.
+#![tactic(auto)]
+
 ghost use Rattle.std.specs.Prelude.{◌≤◌, ◌<◌, length};
 
 use cutting::{Found, LONG};

@@ -14,6 +14,8 @@
 //     puts KEY N          N puts of the key, with the values 0, 1, 2, ..
 //
 // In a key or a value `v*221` stands for 221 times v, and `%7f` for the byte 0x7F.
+#![tactic(auto)]
+
 ghost use Rattle.std.specs.Prelude.{◌≤◌, ◌<◌, length};
 ghost use Rattle.io.specs.Counts.{IsPrefixLen};
 

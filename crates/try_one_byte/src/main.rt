@@ -2,6 +2,8 @@
 // bit being free to stay 1. Which of them are sound? Byte 0 of a page is its form, so that the example is byte 1 of a page of the old form.
 // Then the same for the count form: byte 1 of the payload is 0x01, and the number of the page's 0 bits, in its last two bytes, is 0x07EE. Seven bits of the payload
 // and seven of the count may stay 1.
+#![tactic(auto)]
+
 use trying::text;
 
 // How many pairs, and how many triples, a cut write may leave.

@@ -1,5 +1,7 @@
 // The pages of a value, of a note and of a seal, and that of the value in the old form, byte by byte as they stand on a chip, with what is read off them in
 // place. docs/FORMAT.md shows the first and the last. Then the three examples of document 02, request 3.
+#![tactic(auto)]
+
 ghost use Rattle.std.specs.Prelude.{◌≡◌, ◌+◌, ◌*◌, ◌≤◌, length};
 
 use record::Kind;

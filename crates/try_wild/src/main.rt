@@ -1,6 +1,8 @@
 // Random bytes as chips and as work areas, with four blocks. Part 1: chips of four kinds are started, read, changed and started again. Part 2: the work
 // area of a sound chip is overwritten, and each call is made on it. What is printed is how often each number was answered, and sums of what was read. The rows
 // of the report are the file stdin, each with the kind of chip or area, the slot of its first number, how many numbers it has, and its name.
+#![tactic(auto)]
+
 ghost use Rattle.std.specs.Prelude.{◌<◌};
 
 use calls::{DELETE, FORMAT, PUT};

@@ -1,5 +1,7 @@
 // What the programs try_* have in common: how they print, the lines and words of a script, the noises that they cut with, and pages of the old form, which the
 // store reads and no longer writes.
+#![tactic(auto)]
+
 mod words;
 
 ghost use Rattle.std.specs.Prelude.{◌≡◌, ◌≤◌, length};

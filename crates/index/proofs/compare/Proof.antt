@@ -5,7 +5,7 @@ use native.Mathlib.Numerals.{add-one}
 use native.Mathlib.Omega.{arith}
 use borrow.Author.Rules.{rules}
 use lib.ListN.{length, take}
-use Rattle.log.proofs.KeyPlaces.{≺_at, ≺_end, ≡_end, take_more}
+use Rattle.ring_log.proofs.KeyPlaces.{≺_at, ≺_end, ≡_end, take_more}
 use Rattle.index.proofs.compare.Statement.{statement}
 use Rattle.index.proofs.compare.Tie as tie
 

@@ -3,7 +3,7 @@ use mathlib.Core.Path.{ap, ◌∙◌, subst}
 use Rattle.chip.specs.Chip.{page_at}
 use Rattle.record.specs.Record.{key_on}
 use Rattle.record.proofs.Fields.{key_begins}
-use Rattle.log.specs.Key.{Key}
+use Rattle.ring_log.specs.Key.{Key}
 use Rattle.index.specs.Answers.{Compared}
 use borrow.Author.Rules.{rules}
 use Rattle.index.proofs.compare_at.Statement.{statement}

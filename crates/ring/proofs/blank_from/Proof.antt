@@ -3,7 +3,7 @@ use mathlib.Core.Path.{◌≡◌, sym, ap, ◌∙◌}
 use mathlib.Core.Bool.{true, not}
 use Prim.Native.Nat.{◌-◌, ◌≤◌}
 use native.Mathlib.Omega.{arith}
-use Rattle.log.specs.Ring.{chip_of}
+use Rattle.ring_log.specs.Ring.{chip_of}
 use Rattle.ring.specs.Seals.{blank_from}
 use Rattle.ring.proofs.Scan.{blank_none, blank_next, blank_fails, blank_through}
 use borrow.Author.Rules.{rules}

@@ -2,7 +2,7 @@
 use mathlib.Core.Path.{sym, ◌∙◌}
 use native.Mathlib.Omega.{arith}
 use borrow.Author.Tests.{not-true, not-false}
-use Rattle.log.specs.Ring.{chip_of, sealed}
+use Rattle.ring_log.specs.Ring.{chip_of, sealed}
 use Rattle.ring.proofs.Scan.{counted_le, begin_sealed, begin_later, begin_gap, begin_unblank, begin_first, begin_short}
 use borrow.Author.Rules.{rules}
 use Rattle.ring.proofs.find_begin.Statement.{statement}

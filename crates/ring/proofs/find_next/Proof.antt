@@ -3,7 +3,7 @@ use mathlib.Core.Path.{◌≡◌, refl, sym, ap, ◌∙◌}
 use mathlib.Core.Bool.{not}
 use Prim.Native.Nat.{◌≤◌}
 use native.Mathlib.Omega.{arith}
-use Rattle.log.specs.Ring.{chip_of, next_to}
+use Rattle.ring_log.specs.Ring.{chip_of, next_to}
 use Rattle.ring.proofs.Scan.{next_full, next_blank, next_none}
 use borrow.Author.Rules.{rules}
 use Rattle.ring.proofs.find_next.Statement.{statement}

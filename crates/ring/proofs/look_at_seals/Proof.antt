@@ -3,7 +3,7 @@
 use mathlib.Core.Path.{◌≡◌, sym, ap, ◌∙◌}
 use Prim.Native.Nat.{◌-◌, ◌≤◌, ◌<◌}
 use native.Mathlib.Omega.{arith}
-use Rattle.log.specs.Ring.{chip_of, sealed, head_from, head}
+use Rattle.ring_log.specs.Ring.{chip_of, sealed, head_from, head}
 use Rattle.ring.specs.Seals.{counted}
 use Rattle.ring.proofs.Scan.{counted_le, counted_first, counted_next, head_begins, pick, pick_turn, pick_end, pick_inside, sealed_on}
 use borrow.Author.Rules.{rules}

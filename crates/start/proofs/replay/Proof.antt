@@ -4,7 +4,7 @@ use Prim.Native.Nat.{◌+◌, ◌-◌, ◌*◌, ◌≤◌}
 use native.Mathlib.Omega.{arith}
 use lib.ListN.{length, take}
 use Rattle.record.specs.Record.{rec_at}
-use Rattle.log.specs.Log.{run, pages}
+use Rattle.ring_log.specs.Log.{run, pages}
 use Rattle.start.proofs.Bridge.{rows_begin, rows_next, rows_end}
 use borrow.Author.Rules.{rules}
 use Rattle.start.proofs.replay.Statement.{statement}
