@@ -20,12 +20,12 @@ encode-requires-in-Note c =
 pub returns-in-Value : goal.returns-in-Value
 returns-in-Value c =
     c.encode.ensures ∙ ap₂ (λ (k v : List ℕ). record_page (record_of false k v)) c.key_on.ensures c.value_on.ensures
-    ∙ anew_value c.args.page.now (sym c.kind_of.ensures ∙ c.enum_told-1.given.1)
+    ∙ anew_value c.args.page.now (sym c.in-Value.ensures)
 
 pub returns-in-Note : goal.returns-in-Note
 returns-in-Note c =
     c.encode-in-Note.ensures ∙ ap (λ (k : List ℕ). record_page (record_of true k [])) c.key_on-in-Note.ensures
-    ∙ anew_note c.args.page.now (sym c.kind_of.ensures ∙ c.enum_told-in-Note-1.given.1)
+    ∙ anew_note c.args.page.now (sym c.in-Note.ensures)
 
 pub returns-in-Nothing : goal.returns-in-Nothing
-returns-in-Nothing c = c.as_it_stands.ensures ∙ anew_nothing c.args.page.now (sym c.kind_of.ensures ∙ c.enum_told-in-Nothing-1.given.1)
+returns-in-Nothing c = c.as_it_stands.ensures ∙ anew_nothing c.args.page.now (sym c.in-Nothing.ensures)
