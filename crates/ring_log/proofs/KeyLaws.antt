@@ -39,12 +39,12 @@ pub ≺_ne' : (a b : Key) → a ≺ b → b ≢ a
 module _ {A : Type 0} (a b : Key) (t : Tri a b) (x y z : A) where
   -- the choice, where a comes before b
   pub by_tri-< : a ≺ b → by_tri t x y z ≡ x
-  by_tri-< h = elim t [ tri< k ↦ refl | tri≡ k ↦ absurd (≺_ne a b h k) | tri> k ↦ absurd (≺_asym a b h k) ]
+  by_tri-< h = elim t as (λ k. by_tri k x y z ≡ x) [ tri< k ↦ refl | tri≡ k ↦ absurd (≺_ne a b h k) | tri> k ↦ absurd (≺_asym a b h k) ]
 
   -- where they are the same
   pub by_tri-≡ : a ≡ b → by_tri t x y z ≡ y
-  by_tri-≡ h = elim t [ tri< k ↦ absurd (≺_ne a b k h) | tri≡ k ↦ refl | tri> k ↦ absurd (≺_ne b a k (sym h)) ]
+  by_tri-≡ h = elim t as (λ k. by_tri k x y z ≡ y) [ tri< k ↦ absurd (≺_ne a b k h) | tri≡ k ↦ refl | tri> k ↦ absurd (≺_ne b a k (sym h)) ]
 
   -- where b comes before a
   pub by_tri-> : b ≺ a → by_tri t x y z ≡ z
-  by_tri-> h = elim t [ tri< k ↦ absurd (≺_asym a b k h) | tri≡ k ↦ absurd (≺_ne b a h (sym k)) | tri> k ↦ refl ]
+  by_tri-> h = elim t as (λ k. by_tri k x y z ≡ z) [ tri< k ↦ absurd (≺_asym a b k h) | tri≡ k ↦ absurd (≺_ne b a h (sym k)) | tri> k ↦ refl ]
