@@ -16,13 +16,13 @@ pub look_at-requires : goal.look_at-requires
 look_at-requires c = record { sane = sane_moved _ _ _ _ _ _ _ _ _ c.requires c.loop-i.invariant.2 c.loop-i.invariant.3 c.requires.inside; i_bound = search rules }
 
 pub returns-in-Dark : goal.returns-in-Dark
-returns-in-Dark c = record { right = turns_dark _ _ _ _ _ _ _ _ (c.loop-i.i + 1) _ _ (omega arith) _ _ _ (turns_next _ _ _ _ _ _ _ c.loop-i.i _ _ _ _ c.loop-i.invariant.4 _ _ _ _ (c.in-Dark.ensures.0)); few = search rules }
+returns-in-Dark c = record { right = turns_dark _ _ _ _ _ _ _ _ (c.loop-i.i + 1) _ _ (omega arith) _ _ _ (turns_next _ _ _ _ _ _ _ c.loop-i.i _ _ _ _ c.loop-i.invariant.4 _ _ _ _ (c.in-Dark.ensures.right)); few = search rules }
 
 pub returns-in-Dirty : goal.returns-in-Dirty
-returns-in-Dirty c = record { right = turns_dirty _ _ _ _ _ _ _ _ (c.loop-i.i + 1) _ _ (omega arith) _ _ _ (turns_next _ _ _ _ _ _ _ c.loop-i.i _ _ _ _ c.loop-i.invariant.4 _ _ _ _ (c.in-Dirty.ensures.0)); few = search rules }
+returns-in-Dirty c = record { right = turns_dirty _ _ _ _ _ _ _ _ (c.loop-i.i + 1) _ _ (omega arith) _ _ _ (turns_next _ _ _ _ _ _ _ c.loop-i.i _ _ _ _ c.loop-i.invariant.4 _ _ _ _ (c.in-Dirty.ensures.right)); few = search rules }
 
 pub loop-i-preserved : goal.loop-i-preserved
-loop-i-preserved c = (search rules, c.in-On.ensures.1, c.look_at.auto.0 ∙ c.loop-i.invariant.2, c.look_at.auto.1.0 ∙ c.loop-i.invariant.3, turns_next _ _ _ _ _ _ _ c.loop-i.i _ _ _ _ c.loop-i.invariant.4 _ _ _ _ (c.in-On.ensures.0))
+loop-i-preserved c = (search rules, c.in-On.ensures.few, c.look_at.auto.chip ∙ c.loop-i.invariant.2, c.look_at.auto.index ∙ c.loop-i.invariant.3, turns_next _ _ _ _ _ _ _ c.loop-i.i _ _ _ _ c.loop-i.invariant.4 _ _ _ _ (c.in-On.ensures.right))
 
 pub returns : goal.returns
 returns c = record { right = turns_all _ _ _ _ _ _ _ 0 c.loop-i.i _ _ (omega arith) _ _ _ _ c.loop-i.invariant.4; few = c.loop-i.invariant.1 }

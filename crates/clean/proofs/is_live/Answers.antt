@@ -9,18 +9,18 @@ use borrow.Author.Rules.{rules}
 use Rattle.clean.proofs.is_live.Goals as goal
 
 pub offset_bounds-index-j : goal.offset_bounds-index-j
-offset_bounds-index-j c = let l = c.in-At.ensures.0 in search rules
+offset_bounds-index-j c = let l = c.in-At.ensures.within in search rules
 
 pub bounds-index-j : goal.bounds-index-j
-bounds-index-j c = let l = c.in-At.ensures.0 in omega arith
+bounds-index-j c = let l = c.in-At.ensures.within in omega arith
 
 pub returns-then-word-q : goal.returns-then-word-q
-returns-then-word-q c = let w = c.in-At.ensures.0 in
-    (w, judge_here _ _ _ _ _ (c.key_on.ensures ∙ ap key_on c.beginning_at-begins.ensures ∙ key_begins (page_at c.args.chip.now c.args.q)) _ c.find.ensures.1 _ c.in-At.is w (sym c.word.ensures ∙ omega arith))
+returns-then-word-q c = let w = c.in-At.ensures.within in
+    record { within = w; right = judge_here _ _ _ _ _ (c.key_on.ensures ∙ ap key_on c.beginning_at-begins.ensures ∙ key_begins (page_at c.args.chip.now c.args.q)) _ c.find.ensures.right _ c.in-At.is w (sym c.word.ensures ∙ omega arith) }
 
 pub returns-else-word-q : goal.returns-else-word-q
-returns-else-word-q c = let w = c.in-At.ensures.0 in
-    (tt, judge_elsewhere _ _ _ _ _ (c.key_on.ensures ∙ ap key_on c.beginning_at-begins.ensures ∙ key_begins (page_at c.args.chip.now c.args.q)) _ c.find.ensures.1 _ c.in-At.is w (λ e. omega (arith, c.word.ensures, e)))
+returns-else-word-q c = let w = c.in-At.ensures.within in
+    record { within = tt; right = judge_elsewhere _ _ _ _ _ (c.key_on.ensures ∙ ap key_on c.beginning_at-begins.ensures ∙ key_begins (page_at c.args.chip.now c.args.q)) _ c.find.ensures.right _ c.in-At.is w (λ e. omega (arith, c.word.ensures, e)) }
 
 pub returns-in-Missing : goal.returns-in-Missing
-returns-in-Missing c = record { within = tt; right = judge_missing _ _ _ _ _ (c.key_on.ensures ∙ ap key_on c.beginning_at-begins.ensures ∙ key_begins (page_at c.args.chip.now c.args.q)) _ c.find.ensures.1 _ c.in-Missing.is }
+returns-in-Missing c = record { within = tt; right = judge_missing _ _ _ _ _ (c.key_on.ensures ∙ ap key_on c.beginning_at-begins.ensures ∙ key_begins (page_at c.args.chip.now c.args.q)) _ c.find.ensures.right _ c.in-Missing.is }

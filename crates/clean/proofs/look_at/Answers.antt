@@ -7,15 +7,15 @@ use borrow.Author.Rules.{rules}
 use Rattle.clean.proofs.look_at.Goals as goal
 
 pub is_live-requires : goal.is_live-requires
-is_live-requires c = (c.requires.0.entries, search rules)
+is_live-requires c = (c.requires.sane.entries, search rules)
 
 pub carry-requires : goal.carry-requires
-carry-requires c = let low = c.in-Yes.ensures.0 in
-    ((omega arith, omega (arith, c.requires.0.size), c.requires.0.loud), (search rules, omega (arith, low, c.requires.0.entries)))
+carry-requires c = let low = c.in-Yes.ensures.within in
+    record { x_lt_most_blocks = (omega arith, omega (arith, c.requires.sane.size), c.requires.sane.loud); page_len = (search rules, omega (arith, low, c.requires.sane.entries)) }
 
 pub returns-in-No : goal.returns-in-No
-returns-in-No c = record { right = look_on _ c.requires.0.some_blocks _ _ _ c.requires.0.size _ _ _ _ _ c.requires.1.0 _ (ap (λ (x : ℕ). 16 * x + c.args.i) c.block_after.ensures.0) (c.in-No.ensures.1); few = search rules }
+returns-in-No c = record { right = look_on _ c.requires.sane.some_blocks _ _ _ c.requires.sane.size _ _ _ _ _ c.requires.i_bound.0 _ (ap (λ (x : ℕ). 16 * x + c.args.i) c.block_after.ensures.0) (c.in-No.ensures.right); few = search rules }
 
 pub returns-in-Yes : goal.returns-in-Yes
-returns-in-Yes c = let low = c.in-Yes.ensures.0 in
-    (look_carried _ c.requires.0.some_blocks _ _ _ c.requires.0.size _ _ _ _ _ c.requires.1.0 _ (ap (λ (x : ℕ). 16 * x + c.args.i) c.block_after.ensures.0) _ _ _ low c.block_after-spare.ensures.0 c.page_at-page.ensures (c.in-Yes.ensures.1) _ _ _ _ c.carry.ensures.0, c.carry.ensures.1)
+returns-in-Yes c = let low = c.in-Yes.ensures.within in
+    record { right = look_carried _ c.requires.sane.some_blocks _ _ _ c.requires.sane.size _ _ _ _ _ c.requires.i_bound.0 _ (ap (λ (x : ℕ). 16 * x + c.args.i) c.block_after.ensures.0) _ _ _ low c.block_after-spare.ensures.0 c.page_at-page.ensures (c.in-Yes.ensures.right) _ _ _ _ c.carry.ensures.right; few = c.carry.ensures.few }
