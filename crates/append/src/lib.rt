@@ -12,7 +12,7 @@ use index::Found;
 use opening::Room;
 
 // How a change ended: done, with the head, the next place, the number of keys and the cursor; a refusal; the power went; a page was not blank.
-#[derive(Drop)]
+#[derive(Clone, Copy)]
 pub enum Change {
     Made(usize, usize, usize, usize),
     Denied(u32),

@@ -11,7 +11,7 @@ use index::Found;
 
 // Whether page q holds a live value: the newest record of its key, by the index. If so, where its entry stands. Of the page the beginning is read, 32 bytes;
 // what it says isn't asked: where the index is right, an entry is the page of a value.
-#[derive(Drop)]
+#[derive(Clone, Copy)]
 pub enum Live {
     Yes(usize),
     No,
@@ -35,7 +35,7 @@ pub fn is_live(chip: &[u8], index: &[u32], n: usize, q: usize) -> Live
 }
 
 // How a step went: on, with k pages of the spare written; the power went; a page was not blank.
-#[derive(Drop)]
+#[derive(Clone, Copy)]
 pub enum Turn {
     On(usize),
     Dark,

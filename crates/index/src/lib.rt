@@ -8,7 +8,7 @@ ghost use Rattle.index.specs.Index.{keys_of, Ordered, insert_at, remove_at};
 ghost use Rattle.index.specs.Answers.{Compared, Within, Finds, put_at, take_out};
 
 // How one key stands to another.
-#[derive(Drop)]
+#[derive(Clone, Copy)]
 pub enum Order {
     Below,
     Same,
@@ -16,7 +16,7 @@ pub enum Order {
 }
 
 // Where a key stands in the index, or would stand.
-#[derive(Drop)]
+#[derive(Clone, Copy)]
 pub enum Found {
     At(usize),
     Missing(usize),

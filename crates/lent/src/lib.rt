@@ -11,7 +11,7 @@ ghost use Rattle.lent.specs.Area.{blocks_of, Sized};
 ghost use Rattle.lent.specs.Tested.{number, key_number, Tested};
 
 // How a call ended: it is done, with a number for those that answer one; or it was refused, with document 01's number.
-#[derive(Drop)]
+#[derive(Clone, Copy)]
 pub enum Answer {
     Done(usize),
     Refused(u32),

@@ -124,7 +124,7 @@ pub fn open_next(
 }
 
 // Where the next record goes: the head, and the place of its block; the cursor, and the looks left to this call. Or the power went; or a page was not blank.
-#[derive(Drop)]
+#[derive(Clone, Copy)]
 pub enum Room {
     Place(usize, usize, usize, usize),
     Gone,

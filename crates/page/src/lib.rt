@@ -189,7 +189,7 @@ fn first_apart(page: &[u8]) -> usize
 }
 
 // What a page is: blank, sound, or spoilt, and then at which byte.
-#[derive(Drop)]
+#[derive(Clone, Copy)]
 pub enum Look {
     Blank,
     Sound,

@@ -12,7 +12,7 @@ ghost use Rattle.record.specs.Kinds.{kind_of};
 pub const MOST_VALUE: usize = 220;
 
 // The kinds of what a page says. A seal says nothing.
-#[derive(Drop)]
+#[derive(Clone, Copy)]
 pub enum Kind {
     Value,
     Note,

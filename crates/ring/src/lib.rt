@@ -16,7 +16,7 @@ fn sealed(chip: &[u8], x: usize) -> bool
 }
 
 // What the seals say: the head, whether block 0 is sealed, and how many blocks are.
-#[derive(Drop)]
+#[derive(Clone, Copy)]
 pub struct Seals {
     pub head: usize,
     pub first: bool,

@@ -11,7 +11,7 @@ use lent::Answer;
 use page::Look;
 
 // How many pages are blank, sound and spoilt; the first spoilt one, and its lowest byte that disagrees with its copy (0 and 0 if there is none).
-#[derive(Drop)]
+#[derive(Clone, Copy)]
 pub struct Seen {
     pub blank: u64,
     pub sound: u64,

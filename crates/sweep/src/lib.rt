@@ -52,7 +52,7 @@ fn pass(
 }
 
 // How far a sweep came: the head's next place, the cursor, and the looks left; or the power went; or a page was not blank.
-#[derive(Drop)]
+#[derive(Clone, Copy)]
 pub enum Swept {
     To(usize, usize, usize),
     Dark,
