@@ -15,9 +15,8 @@ bounds-work-3 c = omega (arith, (c.refusal-k.ensures.tested.checked (omega arith
 pub slice_bounds-fetch-count : goal.slice_bounds-fetch-count
 slice_bounds-fetch-count c = omega (arith, (c.refusal-k.ensures.tested.checked (omega arith)).sized.long)
 
--- ?? Need-slice-bounds-fetch-start
-part-fetch-start : tie.Need-slice-bounds-fetch-start
-part-fetch-start c = omega (arith, (c.before.before.before.refusal.ensures.0.checked (omega arith)).sized.long)
+pub slice_bounds-fetch-start : goal.slice_bounds-fetch-start
+slice_bounds-fetch-start c = omega (arith, (c.refusal-k.ensures.tested.checked (omega arith)).sized.long)
 
 pub fetch-requires : goal.fetch-requires
 fetch-requires c = let k = c.refusal-k.ensures.tested.checked (omega arith) in omega (arith, c.word-n.ensures, k.few, k.sized.long)

@@ -15,4 +15,4 @@ pub read_value-requires : goal.read_value-requires
 read_value-requires c = (c.requires, search rules ∙ c.value_length-n.ensures ∙ ap value_length c.beginning_at-begins.ensures ∙ length_begins _)
 
 pub returns : goal.returns
-returns c = value_all c.args.chip.now c.args.buffer.now c.args.p c.value_length-n.result c.requires (c.value_length-n.ensures ∙ ap value_length c.beginning_at-begins.ensures ∙ length_begins _) _ _ (c.value_length-n.result - 0) (omega arith) c.read_value.ensures (omega arith) refl
+returns c = let v = value_all c.args.chip.now c.args.buffer.now c.args.p c.value_length-n.result c.requires (c.value_length-n.ensures ∙ ap value_length c.beginning_at-begins.ensures ∙ length_begins _) _ _ (c.value_length-n.result - 0) (omega arith) c.read_value.ensures (omega arith) refl in record { got = v.0; right = v.1 }
