@@ -12,6 +12,7 @@ use Rattle.floatstore.specs.Numbers.{held}
 
 yes : (b : Bool) → T b → (n m : ℕ) → cond b n m ≡ n
 yes true t n m = refl
+yes false t n m = elim t [ ]
 
 no : (b : Bool) → (T b → ⊥) → (n m : ℕ) → cond b n m ≡ m
 no true t n m = absurd (t tt)
