@@ -48,8 +48,8 @@ fn append(
     fuse: &mut u64,
     noise: &[u8],
 ) -> Change
-    requires le_b { (4 ≤ b) × (b ≤ most_blocks) × (length chip.old ≡ 4096 * b) × (h < b) × (next < 15) × (length noise.now ≡ 4096) }
-    requires n_in_bounds { (n < length index.old) × Within n found × Keyed key.now value.now × (passed < 4294967296) }
+    requires sized { (4 ≤ b) × (b ≤ most_blocks) × (length chip.old ≡ 4096 * b) × (h < b) × (next < 15) × (length noise.now ≡ 4096) }
+    requires entries { (n < length index.old) × Within n found × Keyed key.now value.now × (passed < 4294967296) }
     ensures right { Appends b h next passed n found note key.now value.now noise.now chip.old fuse.old index.old chip.new fuse.new index.new result }
     ensures within { ChangeWithin b n result }
     ensures undenied { Undenied result }
@@ -111,7 +111,7 @@ pub fn make_change(
     noise: &[u8],
 ) -> Change
     requires sane { Sane b chip.old index.old noise.now n h × (next ≤ 15) }
-    requires n_in_bounds { (n < length index.old) × Keyed key.now value.now × (n ≤ room b) × (passed < 4294967296) }
+    requires entries { (n < length index.old) × Keyed key.now value.now × (n ≤ room b) × (passed < 4294967296) }
     ensures right { Alters b h next passed n note key.now value.now noise.now chip.old fuse.old index.old chip.new fuse.new index.new result }
     ensures within { ChangeWithin b n result }
     ensures kept { ChangeKept chip.old fuse.old index.old chip.new fuse.new index.new result }

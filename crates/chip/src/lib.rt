@@ -116,8 +116,8 @@ pub fn erase(chip: &mut [u8], b: usize, fuse: &mut u64, noise: &[u8])
 
 // Writes page p, which is blank: by the maker's rules no other page may be written.
 pub fn write(chip: &mut [u8], p: usize, new: &[u8], fuse: &mut u64, noise: &[u8])
-    requires p_in_bounds { (256 * p + 256 ≤ length chip.old) × (length new.now ≡ 256) × (length noise.now ≡ 4096) }
-    requires p_value { blank_at chip.old p ≡ true }
+    requires sized { (256 * p + 256 ≤ length chip.old) × (length new.now ≡ 256) × (length noise.now ≡ 4096) }
+    requires blank { blank_at chip.old p ≡ true }
     ensures chip_after { chip.new ≡ written (power fuse.old) noise.now p new.now chip.old }
     ensures fuse_after { fuse.new ≡ fuse.old - 1 }
 {

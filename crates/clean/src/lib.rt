@@ -53,8 +53,8 @@ pub fn carry(
     fuse: &mut u64,
     noise: &[u8],
 ) -> Turn
-    requires x_lt_most_blocks { (x < most_blocks) × (4096 * x + 4096 ≤ length chip.old) × (length noise.now ≡ 4096) }
-    requires page_len { (length page.now ≡ 256) × (j < length index.old) }
+    requires sized { (x < most_blocks) × (4096 * x + 4096 ≤ length chip.old) × (length noise.now ≡ 4096) }
+    requires entry { (length page.now ≡ 256) × (j < length index.old) }
     ensures right { Carries x k j page.now noise.now chip.old fuse.old index.old chip.new fuse.new index.new result }
     ensures few { Few result }
 {
@@ -87,7 +87,7 @@ fn look_at(
     noise: &[u8],
 ) -> Turn
     requires sane { Sane b chip.old index.old noise.now n h }
-    requires i_bound { (i < 15) × (k ≤ 15) }
+    requires places { (i < 15) × (k ≤ 15) }
     ensures right { Turns b n h i 1 k noise.now chip.old fuse.old index.old chip.new fuse.new index.new result }
     ensures few { Few result }
 {

@@ -22,8 +22,8 @@ fn clear_spare(
     noise: &[u8],
     first: bool,
 ) -> bool
-    requires le_b { (4 ≤ b) × (b ≤ most_blocks) × (length chip.old ≡ 4096 * b) × (h < b) × (length noise.now ≡ 4096) }
-    requires first_value { first ≡ blank_at chip.old (16 * ((h + 2) % b) + 15) }
+    requires sized { (4 ≤ b) × (b ≤ most_blocks) × (length chip.old ≡ 4096 * b) × (h < b) × (length noise.now ≡ 4096) }
+    requires is_first { first ≡ blank_at chip.old (16 * ((h + 2) % b) + 15) }
     ensures right { Clears b h noise.now chip.old fuse.old chip.new fuse.new result }
     ensures same { first ≡ true → chip.new ≡ chip.old }
 {
@@ -68,7 +68,7 @@ fn copy_live(
     first: bool,
 ) -> Turn
     requires sane { Sane b chip.old index.old noise.now n h }
-    requires b_value { first ≡ true → blank_at chip.old (16 * ((h + 2) % b) + 15) ≡ true }
+    requires first_blank { first ≡ true → blank_at chip.old (16 * ((h + 2) % b) + 15) ≡ true }
     ensures right { Turns b n h 0 15 0 noise.now chip.old fuse.old index.old chip.new fuse.new index.new result }
     ensures few { Few result }
 {
@@ -90,7 +90,7 @@ fn fill_spare(
     first: bool,
 ) -> Turn
     requires sane { Sane b chip.old index.old noise.now n h }
-    requires b_value { first ≡ true → blank_at chip.old (16 * ((h + 2) % b) + 15) ≡ true }
+    requires first_blank { first ≡ true → blank_at chip.old (16 * ((h + 2) % b) + 15) ≡ true }
     ensures right { Fills b n h noise.now chip.old fuse.old index.old chip.new fuse.new index.new result }
     ensures few { Few result }
 {

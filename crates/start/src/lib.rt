@@ -52,8 +52,8 @@ fn replay_block(chip: &[u8], index: &mut [u32], n0: usize, x: usize) -> usize
 
 // The log, from where it begins to the head, is replayed into the index.
 fn replay(chip: &[u8], index: &mut [u32], b: usize, h: usize, begin: usize) -> usize
-    requires le_b { (4 ≤ b) × (b ≤ most_blocks) × (length chip.now ≡ 4096 * b) × (h < b) × (16 * b ≤ length index.old) }
-    requires begin_nonzero { (0 < begin) × Begins b (chip_of chip.now) h begin }
+    requires sized { (4 ≤ b) × (b ≤ most_blocks) × (length chip.now ≡ 4096 * b) × (h < b) × (16 * b ≤ length index.old) }
+    requires begins { (0 < begin) × Begins b (chip_of chip.now) h begin }
     ensures within { result ≤ 15 * (b - 1) }
     ensures right { take result index.new ≡ pages b (table_at b (chip_of chip.now) h) }
 {
@@ -107,7 +107,7 @@ fn least(index: &[u32], n: usize, t: u32, b: u32, end: u32) -> u32
 // The area is made ready for the head h.
 fn make_ready(chip: &[u8], work: &mut [u32], b: usize, h: usize, begin: usize) -> Answer
     requires sized { Sized chip.now work.old × (b ≡ blocks_of chip.now) × (h < b) × (get_or work.old 0 0 ≡ 0) }
-    requires begin_nonzero { (0 < begin) × Begins b (chip_of chip.now) h begin }
+    requires begins { (0 < begin) × Begins b (chip_of chip.now) h begin }
     ensures { Readies chip.now h work.new result }
 {
     let next = ring::find_next(chip, h);

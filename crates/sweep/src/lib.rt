@@ -37,7 +37,7 @@ fn pass(
     noise: &[u8],
 ) -> Turn
     requires sane { Sane b chip.old index.old noise.now n h }
-    requires next_bound { (next < 15) × (passed < next + (b - 2)) }
+    requires places { (next < 15) × (passed < next + (b - 2)) }
     ensures right { Passes b n h next passed noise.now chip.old fuse.old index.old chip.new fuse.new index.new result }
     ensures more { OneMore next result }
 {
@@ -74,7 +74,7 @@ pub fn sweep(
     noise: &[u8],
 ) -> Swept
     requires sane { Sane b chip.old index.old noise.now n h }
-    requires next0_bound { (next0 ≤ 15) × (top ≤ 15) }
+    requires places { (next0 ≤ 15) × (top ≤ 15) }
     ensures right { Sweeps b n h next0 passed0 left0 top noise.now chip.old fuse.old index.old chip.new fuse.new index.new result }
     ensures within { SweptWithin next0 top passed0 left0 result }
 {

@@ -10,7 +10,7 @@ returns-then-k-gt0 c = record { right = change_denied _ c.requires.sane.0.some_b
 
 pub append-requires : goal.append-requires
 append-requires c = let w = c.in-Place.ensures.within in
-    record { le_b = (c.requires.sane.0.some_blocks, c.requires.sane.0.few_blocks, c.make_place.auto.chip ∙ c.requires.sane.0.size, w.says.0, w.says.1, c.requires.sane.0.loud); n_in_bounds = (omega (arith, c.make_place.auto.index, c.requires.n_in_bounds.0), c.find-found.ensures.within, c.requires.n_in_bounds.1, w.says.3 c.requires.n_in_bounds.3) }
+    record { sized = (c.requires.sane.0.some_blocks, c.requires.sane.0.few_blocks, c.make_place.auto.chip ∙ c.requires.sane.0.size, w.says.0, w.says.1, c.requires.sane.0.loud); entries = (omega (arith, c.make_place.auto.index, c.requires.entries.0), c.find-found.ensures.within, c.requires.entries.1, w.says.3 c.requires.entries.3) }
 
 pub returns-in-Place : goal.returns-in-Place
 returns-in-Place c = record { right = change_appended _ c.requires.sane.0.some_blocks _ _ _ c.requires.sane.0.size _ _ _ _ _ c.requires.sane.0.entries _ _ _ _ c.find-found.ensures.right _ c.denied-k.ensures (omega (arith, c.if-k-gt0.false)) _ _ _ _ _ _ _ _ _ _ _ (c.in-Place.ensures.right) c.append.ensures.right; within = c.append.ensures.within; kept = undenied_kept _ _ _ _ _ _ _ c.append.ensures.undenied }

@@ -13,7 +13,7 @@ use borrow.Author.Rules.{rules}
 use Rattle.change.proofs.run_change.Goals as goal
 
 pub make_change-change-requires : goal.make_change-change-requires
-make_change-change-requires c = record { sane = search rules; n_in_bounds = (search rules, c.requires.1, search rules, omega (arith, c.word-passed.ensures, c.slice_known-6-1.given 4)) }
+make_change-change-requires c = record { sane = search rules; entries = (search rules, c.requires.1, search rules, omega (arith, c.word-passed.ensures, c.slice_known-6-1.given 4)) }
 
 pub settle-requires : goal.settle-requires
 settle-requires c = let w : List ℕ = c.args.work.now in

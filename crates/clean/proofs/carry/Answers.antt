@@ -16,11 +16,11 @@ returns-then-not-blank_at c = record { right = carry_dirty _ _ _ _ _ _ _ _ (sym 
 
 pub write-requires : goal.write-requires
 write-requires c =
-    let size = ap length c.anew-copy.ensures ∙ anew_length c.args.page.now c.requires.page_len.0 (λ i. omega (arith, c.shared_slice_known-1.given i)) in
-    record { p_in_bounds = (omega arith, size, c.requires.x_lt_most_blocks.2); p_value = sym c.blank_at.ensures ∙ not-false _ c.if-not-blank_at.false-raw }
+    let size = ap length c.anew-copy.ensures ∙ anew_length c.args.page.now c.requires.entry.0 (λ i. omega (arith, c.shared_slice_known-1.given i)) in
+    record { sized = (omega arith, size, c.requires.sized.2); blank = sym c.blank_at.ensures ∙ not-false _ c.if-not-blank_at.false-raw }
 
 pub returns-then-fuse-eq0 : goal.returns-then-fuse-eq0
-returns-then-fuse-eq0 c = record { right = carry_dark _ _ _ _ _ _ _ _ _ _ _ (omega arith) (sym c.blank_at.ensures ∙ not-false _ c.if-not-blank_at.false-raw) c.write.ensures.fuse_after c.requires.page_len.0 (λ i. omega (arith, c.shared_slice_known-1.given i)) c.anew-copy.ensures c.write.ensures.chip_after (omega arith); few = search rules }
+returns-then-fuse-eq0 c = record { right = carry_dark _ _ _ _ _ _ _ _ _ _ _ (omega arith) (sym c.blank_at.ensures ∙ not-false _ c.if-not-blank_at.false-raw) c.write.ensures.fuse_after c.requires.entry.0 (λ i. omega (arith, c.shared_slice_known-1.given i)) c.anew-copy.ensures c.write.ensures.chip_after (omega arith); few = search rules }
 
 pub returns : goal.returns
-returns c = record { right = carry_on _ _ _ _ _ _ _ _ _ _ _ (omega arith) (sym c.blank_at.ensures ∙ not-false _ c.if-not-blank_at.false-raw) c.write.ensures.fuse_after c.requires.page_len.0 (λ i. omega (arith, c.shared_slice_known-1.given i)) c.anew-copy.ensures c.write.ensures.chip_after (omega arith) (omega arith) _ refl; few = search rules }
+returns c = record { right = carry_on _ _ _ _ _ _ _ _ _ _ _ (omega arith) (sym c.blank_at.ensures ∙ not-false _ c.if-not-blank_at.false-raw) c.write.ensures.fuse_after c.requires.entry.0 (λ i. omega (arith, c.shared_slice_known-1.given i)) c.anew-copy.ensures c.write.ensures.chip_after (omega arith) (omega arith) _ refl; few = search rules }

@@ -13,7 +13,7 @@ pub loop-i-init : goal.loop-i-init
 loop-i-init c = (omega arith, omega arith, refl, refl, turns_none _ _ _ _ _ _ _)
 
 pub look_at-requires : goal.look_at-requires
-look_at-requires c = record { sane = sane_moved _ _ _ _ _ _ _ _ _ c.requires c.loop-i.invariant.2 c.loop-i.invariant.3 c.requires.inside; i_bound = search rules }
+look_at-requires c = record { sane = sane_moved _ _ _ _ _ _ _ _ _ c.requires c.loop-i.invariant.2 c.loop-i.invariant.3 c.requires.inside; places = search rules }
 
 pub returns-in-Dark : goal.returns-in-Dark
 returns-in-Dark c = record { right = turns_dark _ _ _ _ _ _ _ _ (c.loop-i.i + 1) _ _ (omega arith) _ _ _ (turns_next _ _ _ _ _ _ _ c.loop-i.i _ _ _ _ c.loop-i.invariant.4 _ _ _ _ (c.in-Dark.ensures.right)); few = search rules }

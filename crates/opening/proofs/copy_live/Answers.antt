@@ -6,7 +6,7 @@ use borrow.Author.Rules.{rules}
 use Rattle.opening.proofs.copy_live.Goals as goal
 
 pub returns-then-first : goal.returns-then-first
-returns-then-first c = record { right = turns_unused _ c.requires.sane.some_blocks _ _ _ c.requires.sane.size _ _ _ (ap not (c.requires.b_value c.if-first.true)); few = search rules }
+returns-then-first c = record { right = turns_unused _ c.requires.sane.some_blocks _ _ _ c.requires.sane.size _ _ _ (ap not (c.requires.first_blank c.if-first.true)); few = search rules }
 
 pub clean-requires : goal.clean-requires
 clean-requires c = c.requires.sane

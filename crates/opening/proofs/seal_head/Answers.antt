@@ -10,7 +10,7 @@ pub returns-then-not-blank_at : goal.returns-then-not-blank_at
 returns-then-not-blank_at c = record { right = seal_dirty _ c.requires.0 _ _ _ _ _ (sym c.blank_at.ensures ∙ not-true _ c.if-not-blank_at.true-raw); few = search rules }
 
 pub write-requires : goal.write-requires
-write-requires c = record { p_in_bounds = search rules; p_value = sym c.blank_at.ensures ∙ not-false _ c.if-not-blank_at.false-raw }
+write-requires c = record { sized = search rules; blank = sym c.blank_at.ensures ∙ not-false _ c.if-not-blank_at.false-raw }
 
 pub returns-then-fuse-eq0 : goal.returns-then-fuse-eq0
 returns-then-fuse-eq0 c = record { right = seal_dark _ c.requires.0 _ _ _ _ _ _ _ _ (omega arith) (sym c.blank_at.ensures ∙ not-false _ c.if-not-blank_at.false-raw) c.write.ensures.fuse_after c.seal-seal.ensures c.write.ensures.chip_after (omega arith); few = search rules }

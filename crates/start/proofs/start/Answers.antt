@@ -32,7 +32,7 @@ returns-then-begin-eq0 c = let s = c.blocks-b.ensures.sized (omega arith) in
 
 pub make_ready-requires : goal.make_ready-requires
 make_ready-requires c = let s = c.blocks-b.ensures.sized (omega arith) in
-    record { sized = (sized_marked _ _ _ s.1, s.0, c.look_at_seals-seals.ensures.inside, marked c.args.work.now 0 (omega (arith, s.1.long))); begin_nonzero = (omega arith, c.find_begin-begin.ensures) }
+    record { sized = (sized_marked _ _ _ s.1, s.0, c.look_at_seals-seals.ensures.inside, marked c.args.work.now 0 (omega (arith, s.1.long))); begins = (omega arith, c.find_begin-begin.ensures) }
 
 pub shape_of-work : goal.shape_of-work
 shape_of-work c = c.make_ready.auto.work ∙ length-set c.args.work.now 0 0

@@ -16,7 +16,7 @@ pub returns-then-next-b : goal.returns-then-next-b
 returns-then-next-b c = record { right = sofar_all _ _ _ _ _ _ _ _ _ _ _ _ _ _ _ _ _ c.loop-left.invariant.5 (inr (inl (omega arith))); within = (c.loop-left.invariant.0, c.loop-left.invariant.1, c.loop-left.invariant.2) }
 
 pub pass-requires : goal.pass-requires
-pass-requires c = record { sane = sane_moved _ _ _ _ _ _ _ _ _ c.requires.sane c.loop-left.invariant.3 c.loop-left.invariant.4 c.requires.sane.inside; next_bound = (omega arith, omega arith) }
+pass-requires c = record { sane = sane_moved _ _ _ _ _ _ _ _ _ c.requires.sane c.loop-left.invariant.3 c.loop-left.invariant.4 c.requires.sane.inside; places = (omega arith, omega arith) }
 
 pub returns-in-Dark : goal.returns-in-Dark
 returns-in-Dark c = record { right = sofar_dark _ _ _ _ _ _ _ _ _ _ _ _ _ _ _ _ _ c.loop-left.invariant.5 (omega arith) c.loop-left.invariant.1 (omega arith) (omega arith) _ _ _ (c.in-Dark.ensures.right); within = search rules }

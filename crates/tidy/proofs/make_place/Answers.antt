@@ -5,7 +5,7 @@ use Rattle.tidy.proofs.Place.{within_then, swept_place, swept_gone, swept_stuck,
 use Rattle.tidy.proofs.make_place.Goals as goal
 
 pub sweep-requires : goal.sweep-requires
-sweep-requires c = record { sane = c.requires.0; next0_bound = (c.requires.1, omega arith) }
+sweep-requires c = record { sane = c.requires.0; places = (c.requires.1, omega arith) }
 
 pub returns-then-x-lt-PLACES : goal.returns-then-x-lt-PLACES
 returns-then-x-lt-PLACES c = let w = c.in-To.ensures.within in

@@ -4,7 +4,7 @@ use Rattle.tidy.proofs.Place.{swept_place, swept_gone, swept_stuck}
 use Rattle.tidy.proofs.sweep_on.Goals as goal
 
 pub sweep-requires : goal.sweep-requires
-sweep-requires c = record { sane = c.requires.0; next0_bound = (omega (arith, c.requires.1), omega arith) }
+sweep-requires c = record { sane = c.requires.0; places = (omega (arith, c.requires.1), omega arith) }
 
 pub returns-in-To : goal.returns-in-To
 returns-in-To c = let w = c.in-To.ensures.within in
