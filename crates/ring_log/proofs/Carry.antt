@@ -1,16 +1,16 @@
 -- CLEANING BY THE WAY: a live value is carried to the head, as an append of the value that its key has. Whole or cut, the map stays; the potential does not
 -- rise, since the value was old. Assumes nothing.
-use mathlib.Core.Path.{◌≡◌, refl, sym, ap, ◌∙◌, subst}
+use mathlib.Core.Path.{◌≡◌, sym, ap, ◌∙◌}
 use mathlib.Core.Logic.{◌⊎◌, inl, inr}
 use mathlib.Core.List.{List}
-use mathlib.Core.Option.{none, some}
-use Prim.Native.Nat.{ℕ, suc, ◌+◌, ◌-◌, ◌*◌, ◌/◌, ◌%◌, ◌≤◌, ◌<◌}
+use mathlib.Core.Option.{some}
+use Prim.Native.Nat.{ℕ, suc, ◌+◌, ◌-◌, ◌*◌, ◌≤◌, ◌<◌}
 use native.Mathlib.Omega.{arith}
 use lib.ListN.{length, set}
 use Rattle.record.specs.Record.{Rec}
 use Rattle.ring_log.specs.Key.{Key}
 use Rattle.ring_log.specs.Map.{Map, lookup, alter, map_o}
-use Rattle.ring_log.specs.Log.{Placed, placed, page_of, oldest, run, bytes, pages, FIRST, U, log_place}
+use Rattle.ring_log.specs.Log.{Placed, placed, page_of, oldest, bytes, pages, FIRST, U, log_place}
 use Rattle.ring_log.specs.Ring.{Chip, Ring, next, table, map_of, room, Ready}
 use Rattle.ring_log.specs.Call.{Wrote, CutWrote, Cursor, Looks, Live}
 use Rattle.ring_log.specs.Wear.{age, ages, phi, potential, ripes}

@@ -3,20 +3,20 @@ use mathlib.Core.Path.{◌≡◌, refl, sym, ap, ◌∙◌, subst}
 use mathlib.Core.Logic.{◌≢◌, ◌⊎◌, inl, inr}
 use mathlib.Core.List.{List, [], ◌∷◌}
 use mathlib.Core.Option.{Option, none, some}
-use Prim.Native.Nat.{ℕ, zero, suc, ◌+◌, ◌-◌, ◌*◌, ◌/◌, ◌%◌, ◌≤◌, ◌<◌}
+use Prim.Native.Nat.{ℕ, zero, suc, ◌+◌, ◌-◌, ◌*◌, ◌≤◌, ◌<◌}
 use native.Mathlib.Decide.{dec_lt, ℕ_discrete}
 use native.Mathlib.Omega.{arith}
 use lib.ListN.{length}
 use Rattle.record.specs.Record.{Rec}
 use Rattle.ring_log.specs.Key.{Key, key≟}
-use Rattle.ring_log.specs.Map.{Map, lookup, alter, Sorted, total, map_o}
-use Rattle.ring_log.specs.Log.{Placed, placed, page_of, oldest, run, FIRST, U, log_place}
+use Rattle.ring_log.specs.Map.{Map, lookup, alter, Sorted, map_o}
+use Rattle.ring_log.specs.Log.{Placed, placed, page_of, oldest, log_place}
 use Rattle.ring_log.specs.Ring.{Chip, Ring, next, table, room}
 use Rattle.ring_log.specs.Call.{Cursor, Looks, Live, Dead}
 use Rattle.ring_log.specs.Wear.{age, ripe, ripes}
-use Rattle.ring_log.specs.Timely.{log_end, NoneBefore, Behind, Timely}
-use Rattle.ring_log.proofs.MapLaws.{All, or_zero, some_inj, some≢none, lookup_here, lookup_there, lookup_above, lookup_same, lookup_other}
-use Rattle.ring_log.proofs.MapMore.{total_alter, all_lookup}
+use Rattle.ring_log.specs.Timely.{log_end, Behind, Timely}
+use Rattle.ring_log.proofs.MapLaws.{or_zero, some_inj, some≢none, lookup_here, lookup_there, lookup_above, lookup_same, lookup_other}
+use Rattle.ring_log.proofs.MapMore.{total_alter}
 use Rattle.ring_log.proofs.RingLaws.{next_le}
 use Rattle.ring_log.proofs.LogLaws.{Stands}
 use Rattle.ring_log.proofs.Clean.{run_stands}

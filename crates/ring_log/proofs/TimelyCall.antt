@@ -1,28 +1,26 @@
 -- NO CALL IS LONG: where the cursor is in time but for 8 (1 + q), and q is at most 5, a call erases at most one block and writes at most 10 + q pages; and the
 -- cursor is in time after it, or where it was cut short at some place, but for 8 more. Assumes nothing.
-use mathlib.Core.Path.{◌≡◌, refl, sym, ap, ◌∙◌, subst}
+use mathlib.Core.Path.{◌≡◌, refl, sym, ◌∙◌, subst}
 use mathlib.Core.Logic.{◌⊎◌, inl, inr}
-use mathlib.Core.List.{List, [], ◌∷◌}
+use mathlib.Core.List.{List}
 use mathlib.Core.Bool.{Bool, true, false}
-use mathlib.Core.Option.{none, some}
-use Prim.Native.Nat.{ℕ, suc, ◌+◌, ◌-◌, ◌*◌, ◌/◌, ◌%◌, ◌≤◌, ◌<◌}
+use Prim.Native.Nat.{ℕ, suc, ◌+◌, ◌-◌, ◌*◌, ◌≤◌, ◌<◌}
 use native.Mathlib.Decide.{dec_lt}
 use native.Mathlib.Omega.{arith}
 use lib.ListN.{length}
 use Rattle.chip.specs.Play.{Op, erases, writes}
 use Rattle.record.specs.Record.{Rec}
-use Rattle.ring_log.specs.Log.{Placed, page_of, oldest, FIRST, U, log_place}
+use Rattle.ring_log.specs.Log.{oldest}
 use Rattle.ring_log.specs.Ring.{Chip, sealed, spare, Ring, next, table, room}
-use Rattle.ring_log.specs.Call.{Page, Block, Wrote, CutWrote, State, resting, copying, Cursor, begin, on, back, Looks, Live, Swept, Trace, stop, pass, carry, carry_cut, append, append_cut, erasing, erase_cut, first, skip, copy, copy_cut, seal, seal_cut}
-use Rattle.ring_log.specs.Opening.{Opening, fresh}
-use Rattle.ring_log.specs.Timely.{log_end, Behind, Timely}
+use Rattle.ring_log.specs.Call.{Page, State, resting, copying, Cursor, begin, on, back, Swept, Trace, stop, pass, carry, carry_cut, append, append_cut, erasing, erase_cut, first, skip, copy, copy_cut, seal, seal_cut}
+use Rattle.ring_log.specs.Opening.{fresh}
+use Rattle.ring_log.specs.Timely.{Behind, Timely}
 use Rattle.ring_log.proofs.RingLaws.{round_later, next_cong}
 use Rattle.ring_log.proofs.Steps.{Written, Spoilt, block_table, unsealed_ring, unsealed_table, unsealed_full}
 use Rattle.ring_log.proofs.Opening.{opening_ring, opening_next, copy_rows}
 use Rattle.ring_log.proofs.Potential.{block_next}
 use Rattle.ring_log.proofs.Append.{place, put_ring, put_next, lost_ring}
-use Rattle.ring_log.proofs.Crash.{append_written, append_cut_at, append_lost, erase_lost, skip_done, copy_done, copy_lost}
-use Rattle.ring_log.proofs.Carry.{carry_lost}
+use Rattle.ring_log.proofs.Crash.{append_written, append_cut_at, erase_lost, skip_done, copy_done, copy_lost}
 use Rattle.ring_log.proofs.Timely.{same_timely, timely_more, zone_timely, pass_behind, pass_timely, recorded_behind, recorded_timely, spoilt_timely, carried_behind, carried_timely}
 use Rattle.ring_log.proofs.TimelyOpening.{copies_few, copies_none, opened_behind, opened_timely}
 use Rattle.ring_log.proofs.CallCost.{Rest, Copies, carry_fits, erased_fits, first_fits, on_fits, seal_fits}

@@ -2,7 +2,7 @@
 use mathlib.Core.Path.{◌≡◌, refl, sym, ap, ◌∙◌}
 use mathlib.Core.Bool.{true}
 use mathlib.Core.Option.{some}
-use Prim.Native.Nat.{ℕ, suc, ◌+◌, ◌-◌, ◌*◌, ◌/◌, ◌%◌, ◌≤◌, ◌<◌}
+use Prim.Native.Nat.{ℕ, ◌+◌, ◌-◌, ◌*◌, ◌≤◌, ◌<◌}
 use native.Mathlib.Decide.{dec_lt}
 use native.Mathlib.Omega.{arith}
 use lib.ListN.{length}
@@ -19,7 +19,7 @@ use Rattle.ring_log.proofs.WearLaws.{ripes_le}
 use Rattle.ring_log.proofs.Turn.{turned_ripes}
 use Rattle.ring_log.proofs.Opening.{opening_ring, opening_next, opening_turned, opening_count}
 use Rattle.ring_log.proofs.Append.{table_sorted}
-use Rattle.ring_log.proofs.Timely.{behind_none, none_ripe, ripes_none, timely_rows, rows_timely}
+use Rattle.ring_log.proofs.Timely.{behind_none, none_ripe, ripes_none, rows_timely}
 
 module _ (B : ℕ) (big : 4 ≤ B) (h : ℕ) (c₀ : Chip) (ring : Ring B c₀ h) (full : next c₀ h ≡ 15) (p : ℕ) (b : Behind B c₀ h p) where
   -- the values older than w when it began

@@ -10,7 +10,7 @@ use Rattle.record.specs.Record.{Rec}
 use Rattle.ring_log.specs.Map.{lookup}
 use Rattle.ring_log.specs.Log.{Placed, page_of, oldest, run, log_place}
 use Rattle.ring_log.specs.Ring.{Chip, sealed, spare, next}
-use Rattle.ring_log.specs.Call.{Block, Erased, Wrote, CutWrote, State, resting, copying, Cursor, on, back, Looks, Live, Dead, Trace, pass, carry, carry_cut, erasing, erase_cut, first, skip, copy, copy_cut, seal, seal_cut, Goes, Ends, Leads, LeadsBack, Cut}
+use Rattle.ring_log.specs.Call.{Block, Erased, Wrote, CutWrote, State, resting, copying, Cursor, on, Looks, Live, Dead, Trace, pass, carry, carry_cut, erasing, erase_cut, first, skip, copy, copy_cut, seal, seal_cut, Goes, Ends, Leads, LeadsBack, Cut}
 use Rattle.ring_log.specs.Opening.{fresh}
 
 module _ (B : ℕ) where

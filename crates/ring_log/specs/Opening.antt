@@ -1,6 +1,6 @@
 -- THE OPENING OF THE NEXT BLOCK, as a loop: what holds between its operations. The chip before was c₀, with head h; place t of the oldest block is the next
 -- to be looked at, and place s of the spare the next to be written. The contracts of crates/opening speak of it. Assumes nothing.
-use Rattle.std.specs.Prelude.{◌≡◌, ◌⊎◌, [], true, false, ℕ, suc, ◌+◌, ◌-◌, ◌*◌, ◌≤◌, ◌<◌, length, get_or}
+use Rattle.std.specs.Prelude.{◌≡◌, ◌⊎◌, [], true, false, ℕ, ◌+◌, ◌-◌, ◌*◌, ◌≤◌, ◌<◌, length, get_or}
 use Rattle.std.proofs.Math.Option.{some}
 use Rattle.ring_log.specs.Key.{Key}
 use Rattle.ring_log.specs.Map.{Map, lookup}

@@ -1,5 +1,5 @@
 use mathlib.Core.Path.{refl, sym, ◌∙◌}
-use Prim.Native.Nat.{◌+◌, ◌-◌}
+use Prim.Native.Nat.{◌+◌}
 use native.Mathlib.Omega.{arith}
 use Rattle.clean.proofs.Runs.{sane_moved}
 use Rattle.clean.proofs.Turns.{turns_unlisted, turns_none, turns_next, turns_dark, turns_dirty, turns_all}

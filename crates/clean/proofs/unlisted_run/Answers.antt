@@ -1,5 +1,4 @@
 use mathlib.Core.Path.{refl}
-use Prim.Native.Nat.{◌-◌}
 use native.Mathlib.Omega.{arith}
 use Rattle.page.specs.Page.{all}
 use Rattle.page.proofs.All.{all_more, all_done}

@@ -29,12 +29,18 @@ erase_all-requires c = let s = c.blocks-b.ensures.sized (omega arith) in
 
 pub returns-then-erase_all : goal.returns-then-erase_all
 returns-then-erase_all c = let s = c.blocks-b.ensures.sized (omega arith) in
-    let z = marked c.args.work.now 0 (omega (arith, s.1.long)) in record { did = did_more (omega (arith, s.0)) (omega arith) c.erase_all.ensures.did; right = format_done c.args.chip.now c.args.fuse.now c.args.work.now s.1 (omega arith) (λ e. omega arith) _ _ _ (simp length-set refl) _ s.0 c.erase_all.auto.chip z
-          c.erase_all.result c.if-erase_all.true c.erase_all.ensures.right }
+    let z = marked c.args.work.now 0 (omega (arith, s.1.long)) in record {
+      did = did_more (omega (arith, s.0)) (omega arith) c.erase_all.ensures.did;
+      right = format_done c.args.chip.now c.args.fuse.now c.args.work.now s.1 (omega arith) (λ e. omega arith) _ _ _ (simp length-set refl) _ s.0 c.erase_all.auto.chip z
+          c.erase_all.result c.if-erase_all.true c.erase_all.ensures.right;
+    }
 
 pub bounds-work-0-3 : goal.bounds-work-0-3
 bounds-work-0-3 c = simp length-set (omega (arith, (c.blocks-b.ensures.sized (omega arith)).1.long))
 
 pub returns : goal.returns
-returns c = let s = c.blocks-b.ensures.sized (omega arith) in record { did = did_more (omega (arith, s.0)) (omega arith) c.erase_all.ensures.did; right = format_lost c.args.chip.now c.args.fuse.now c.args.work.now s.1 (omega arith) (λ e. omega arith) _ _ _ (simp length-set refl) _
-      (marked (set c.args.work.now 0 0) 2 (simp length-set (omega (arith, s.1.long)))) c.erase_all.result c.if-erase_all.false c.erase_all.ensures.right }
+returns c = let s = c.blocks-b.ensures.sized (omega arith) in record {
+  did = did_more (omega (arith, s.0)) (omega arith) c.erase_all.ensures.did;
+  right = format_lost c.args.chip.now c.args.fuse.now c.args.work.now s.1 (omega arith) (λ e. omega arith) _ _ _ (simp length-set refl) _
+      (marked (set c.args.work.now 0 0) 2 (simp length-set (omega (arith, s.1.long)))) c.erase_all.result c.if-erase_all.false c.erase_all.ensures.right;
+}

@@ -1,7 +1,6 @@
 use Rattle.index.proofs.Shift.{open_turn, open_done}
 use Rattle.index.proofs.Shift.{open_start}
 use native.Mathlib.Omega.{arith}
-use Prim.Native.Nat.{◌-◌}
 use borrow.Author.Rules.{rules}
 use Rattle.index.proofs.insert.Goals as goal
 

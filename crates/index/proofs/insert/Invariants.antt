@@ -1,6 +1,6 @@
 use Rattle.index.proofs.Shift.{opened}
 use lib.ListN.{length}
-use Prim.Native.Nat.{◌-◌, ◌≤◌}
+use Prim.Native.Nat.{◌≤◌}
 use mathlib.Core.Path.{◌≡◌}
 use Rattle.index.proofs.insert.Given as goal
 

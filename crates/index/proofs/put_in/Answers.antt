@@ -3,7 +3,7 @@ use Rattle.index.specs.declared.Found.{Found}
 use Rattle.index.specs.Answers.{Within, put_at}
 use lib.Seq.{take-set-lt}
 use lib.ListN.{take}
-use Prim.Native.Nat.{ℕ, ◌+◌, ◌-◌}
+use Prim.Native.Nat.{ℕ, ◌+◌}
 use mathlib.Core.List.{List}
 use native.Mathlib.Omega.{arith}
 use mathlib.Core.Path.{sym, ap, ◌∙◌, subst}

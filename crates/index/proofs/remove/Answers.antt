@@ -2,7 +2,7 @@ use Rattle.index.proofs.Shift.{close_turn, close_done}
 use Rattle.index.proofs.Shift.{close_start}
 use lib.ListN.{length}
 use native.Mathlib.Omega.{arith}
-use Prim.Native.Nat.{◌-◌, ◌<◌}
+use Prim.Native.Nat.{◌<◌}
 use borrow.Author.Rules.{rules}
 use Rattle.index.proofs.remove.Goals as goal
 

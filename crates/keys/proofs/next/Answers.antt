@@ -16,10 +16,12 @@ bounds-work-3 c = omega (arith, (c.unready-k.ensures.checked (omega arith)).size
 pub slice_bounds-hand_next-count : goal.slice_bounds-hand_next-count
 slice_bounds-hand_next-count c = omega (arith, (c.unready-k.ensures.checked (omega arith)).sized.long)
 
-
 pub hand_next-requires : goal.hand_next-requires
 hand_next-requires c = let k = c.unready-k.ensures.checked (omega arith) in omega (arith, c.word-n.ensures, k.few, k.sized.long)
 
 pub returns : goal.returns
-returns c = record { got = c.hand_next.ensures.got; right = next_handed c.args.chip.now c.args.fuse.now c.args.work.now c.args.key.now c.args.buffer.now _ _ (omega arith) c.unready-k.ensures c.word-n.result _ (omega arith)
-      c.word-n.ensures c.hand_next.ensures.right }
+returns c = record {
+  got = c.hand_next.ensures.got;
+  right = next_handed c.args.chip.now c.args.fuse.now c.args.work.now c.args.key.now c.args.buffer.now _ _ (omega arith) c.unready-k.ensures c.word-n.result _ (omega arith)
+      c.word-n.ensures c.hand_next.ensures.right;
+}

@@ -1,5 +1,5 @@
 use mathlib.Core.Path.{◌≡◌, refl, sym, ◌∙◌}
-use Prim.Native.Nat.{ℕ, ◌-◌, ◌≤◌, ◌<◌}
+use Prim.Native.Nat.{ℕ, ◌≤◌, ◌<◌}
 use native.Mathlib.Omega.{arith}
 use Rattle.clean.proofs.Runs.{sane_moved}
 use Rattle.opening.proofs.Opens.{going_none, going_at, going_on, going_dark, going_dirty, room_found, room_none}

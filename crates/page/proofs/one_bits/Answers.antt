@@ -1,5 +1,4 @@
 use mathlib.Core.Path.{◌≡◌, ap, ◌∙◌}
-use Prim.Native.Nat.{◌-◌}
 use native.Mathlib.Omega.{arith}
 use Rattle.page.proofs.Adding.{lanes_to, lanes_none, lanes_more, lanes_all}
 use Rattle.page.proofs.one_bits.Goals as goal

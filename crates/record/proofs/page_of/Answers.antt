@@ -10,13 +10,12 @@ use borrow.Author.Rules.{rules}
 use Rattle.record.proofs.page_of.Goals as goal
 
 pub fill-requires : goal.fill-requires
-fill-requires c =
-    (
-      search rules,
-      omega (arith, c.requires.1),
-      laid_bare c.args.kind c.args.key.now c.args.value.now _ c.requires.0 c.requires.1
-          (c.copy_in-2.ensures ∙ ap (λ (l : List ℕ). splice l 32 c.args.value.now) c.copy_in.ensures),
-    )
+fill-requires c = (
+  search rules,
+  omega (arith, c.requires.1),
+  laid_bare c.args.kind c.args.key.now c.args.value.now _ c.requires.0 c.requires.1
+      (c.copy_in-2.ensures ∙ ap (λ (l : List ℕ). splice l 32 c.args.value.now) c.copy_in.ensures),
+)
 
 pub returns : goal.returns
 returns c =

@@ -1,6 +1,5 @@
 use mathlib.Core.Path.{sym, ap, ◌∙◌}
 use mathlib.Core.Bool.{not}
-use Prim.Native.Nat.{◌-◌}
 use native.Mathlib.Omega.{arith}
 use Rattle.ring_log.specs.Ring.{chip_of}
 use Rattle.ring.proofs.Scan.{blank_none, blank_next, blank_fails, blank_through}

@@ -1,7 +1,6 @@
 use mathlib.Core.Path.{◌≡◌, sym, ap, ◌∙◌}
-use Prim.Native.Nat.{◌-◌}
 use native.Mathlib.Omega.{arith}
-use Rattle.ring_log.specs.Ring.{chip_of, sealed, head}
+use Rattle.ring_log.specs.Ring.{chip_of, sealed}
 use Rattle.ring.specs.Seals.{counted}
 use Rattle.ring.proofs.Scan.{counted_le, counted_first, counted_next, head_begins, pick_turn, pick_end, pick_inside, sealed_on}
 use Rattle.ring.proofs.look_at_seals.Goals as goal
