@@ -18,7 +18,7 @@ use Rattle.ring_log.specs.Key.{Key}
 use Rattle.ring_log.specs.Map.{Map, lookup, alter, Sorted, keys}
 use Rattle.ring_log.specs.Log.{Placed, placed, pages}
 use Rattle.ring_log.specs.Ring.{Chip, chip_of, Ring, next, table_at, table, map_of, head, room, Ready}
-use Rattle.ring_log.specs.Call.{resting, Wrote, CutWrote, Cursor, cursor, begin, Swept, Trace, append, append_cut, Goes, Ends}
+use Rattle.ring_log.specs.Call.{resting, Wrote, CutWrote, cursor, begin, Swept, Trace, append, append_cut, Goes}
 use Rattle.ring_log.specs.Answers.{missing}
 use Rattle.ring_log.proofs.MapLaws.{or_zero}
 use Rattle.ring_log.proofs.MapMore.{sorted_map_v}

@@ -1,9 +1,9 @@
 -- THE THREE DEMANDS OF EVERY HISTORY: by induction over its steps, which are the contracts of the calls. Assumes nothing.
 use mathlib.Core.Path.{◌≡◌, refl, sym, ap, ◌∙◌, subst}
-use mathlib.Core.Logic.{◌≢◌, inl, inr}
+use mathlib.Core.Logic.{inl, inr}
 use mathlib.Core.List.{List, [], ◌++◌, append-nil}
 use mathlib.Core.Bool.{Bool, true, false, cond, ◌&&◌, true≢false}
-use Prim.Native.Nat.{ℕ, zero, suc, ◌+◌, ◌-◌, ◌*◌, ◌/◌, ◌≤◌, ◌<◌}
+use Prim.Native.Nat.{ℕ, zero, suc, ◌+◌, ◌*◌, ◌/◌, ◌≤◌, ◌<◌}
 use native.Mathlib.Omega.{arith}
 use lib.Dec.{eqb, leb}
 use lib.ListN.{length}
@@ -27,7 +27,7 @@ use Rattle.fetch.specs.Fetched.{Gets, Counts, GetEnds, CountEnds}
 use Rattle.change.specs.Changed.{ChangesBy, Ended, PutEnds, DeleteEnds, Came}
 use Rattle.start.specs.Started.{StartsBy, StartEnds}
 use Rattle.lent.specs.declared.Answer.{Answer}
-use Rattle.lent.specs.declared.Answer.TheVariants.{Done, Refused}
+use Rattle.lent.specs.declared.Answer.TheVariants.{Done}
 use Rattle.lent.proofs.Held.{map_rows}
 use Rattle.lent.proofs.Numbers.{sizes_hold, sizes_sized}
 use Rattle.keys.specs.Next.{next_answer, NextEnds}

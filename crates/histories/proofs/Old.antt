@@ -1,5 +1,5 @@
 -- CHIPS OF VERSION 0.9.0 SAY WHAT THEY SAID: the map is made of what pages say, so that it is the same. Assumes nothing.
-use mathlib.Core.Path.{◌≡◌, refl, sym, ◌∙◌}
+use mathlib.Core.Path.{◌≡◌, refl}
 use mathlib.Core.Logic.{◌≢◌}
 use mathlib.Core.Bool.{Bool, true, false, cond}
 use mathlib.Core.Option.{Option, none}

@@ -1,12 +1,12 @@
 -- NO CALL IS LONG, in every history: the cursor of cleaning is in time, but for 8 (1 + late), after every step of it. Assumes nothing.
 use mathlib.Core.Path.{◌≡◌, refl, sym, ap, ◌∙◌, subst}
 use mathlib.Core.Logic.{inl, inr}
-use mathlib.Core.List.{List, [], ◌++◌}
-use mathlib.Core.Bool.{Bool, true, false, cond, ◌&&◌}
+use mathlib.Core.List.{List, []}
+use mathlib.Core.Bool.{Bool, true, false, cond}
 use mathlib.Core.Option.{some}
-use Prim.Native.Nat.{ℕ, zero, suc, ◌+◌, ◌-◌, ◌*◌, ◌≤◌, ◌<◌}
+use Prim.Native.Nat.{ℕ, suc, ◌+◌, ◌-◌, ◌*◌, ◌≤◌, ◌<◌}
 use native.Mathlib.Omega.{arith}
-use lib.Dec.{eqb, leb}
+use lib.Dec.{eqb}
 use lib.ListN.{length, get_or}
 use borrow.Author.Tests.{leb-true}
 use Rattle.chip.specs.Play.{Op, erases, writes}
@@ -24,17 +24,16 @@ use Rattle.ring_log.specs.Answers.{Answer as Says}
 use Rattle.ring_log.proofs.MapLaws.{some≢none}
 use Rattle.ring_log.proofs.RingLaws.{ring_head}
 use Rattle.ring_log.proofs.Start.{blank_ring, blank_table}
-use Rattle.ring_log.proofs.CallCost.{Rest}
 use Rattle.ring_log.proofs.Timely.{timely_more, timely_on, zone_timely}
 use Rattle.ring_log.proofs.TimelyCall.{Left, call_timely}
-use Rattle.lent.specs.Area.{blocks_of, map_in, mark, passed, lent_of, lent_to_start, Holds, Store}
+use Rattle.lent.specs.Area.{blocks_of, map_in, passed, lent_of, lent_to_start, Holds, Store}
 use Rattle.change.specs.Changed.{ChangesBy, Ended, PutEnds, DeleteEnds, Came}
-use Rattle.start.specs.Started.{StartsBy, CursorBy, StartEnds}
+use Rattle.start.specs.Started.{StartsBy, StartEnds}
 use Rattle.lent.specs.declared.Answer.{Answer}
 use Rattle.lent.specs.declared.Answer.TheVariants.{Done, Refused}
-use Rattle.histories.specs.History.{Phase, off, on, started, failed, History, Fresh, reached, clean, late_after, late, begin, found, dark, lend, start, put, delete, get, count}
+use Rattle.histories.specs.History.{Phase, off, on, started, failed, History, reached, clean, late_after, late, begin, found, dark, lend, start, put, delete, get, count}
 use Rattle.histories.specs.History.{next as nextStep}
-use Rattle.histories.proofs.Histories.{Lives, Tends, tends_kept, lent_on_lem, blocks_are, few_table, none_failed, goes_dark, lit_on, lit_before, lives}
+use Rattle.histories.proofs.Histories.{Tends, tends_kept, lent_on_lem, blocks_are, few_table, goes_dark, lit_on, lit_before, lives}
 
 module _ (B : ℕ) (big : 4 ≤ B) where
   -- somewhere the cursor would be in time

@@ -1,9 +1,8 @@
 -- What start's replay answers, page by page and block by block; and what its last step leaves. Assumes nothing.
 use Rattle.std.specs.Prelude.{List, ◌≡◌, ℕ, suc, ◌+◌, ◌-◌, ◌*◌, ◌%◌, ◌≤◌, ◌<◌, length, take, drop, get_or}
-use Rattle.std.proofs.Math.Option.{none as nothing}
 use Rattle.record.specs.Record.{rec_at}
 use Rattle.ring_log.specs.Log.{pages, oldest, run, page_of, U}
-use Rattle.ring_log.specs.Ring.{chip_of, head, table_at, next, room}
+use Rattle.ring_log.specs.Ring.{chip_of, table_at, next, room}
 use Rattle.lent.specs.Area.{blocks_of, mark, passed}
 use Rattle.start.specs.Least.{least_of}
 use Rattle.lent.specs.declared.Answer.{Answer}

@@ -1,15 +1,13 @@
 -- A PLACE FOR THE RECORD: a sweep, and where the head is full an opening and the rest of the sweep. Assumes nothing.
-use mathlib.Core.Path.{◌≡◌, refl, sym, ap, ◌∙◌, subst}
-use mathlib.Core.Logic.{◌⊎◌, inl, inr}
+use mathlib.Core.Path.{◌≡◌, ◌∙◌, subst}
 use mathlib.Core.List.{List, ◌++◌}
 use Prim.Native.Nat.{ℕ, ◌+◌, ◌-◌, ◌*◌, ◌≤◌, ◌<◌}
 use native.Mathlib.Omega.{arith}
-use lib.ListN.{length, take}
-use Rattle.chip.specs.Play.{Op, Did}
+use lib.ListN.{take}
+use Rattle.chip.specs.Play.{Op}
 use Rattle.chip.proofs.Plays.{did_more, did_then}
-use Rattle.ring_log.specs.Ring.{chip_of, next, map_of, Ready}
+use Rattle.ring_log.specs.Ring.{chip_of, map_of, Ready}
 use Rattle.ring_log.specs.Call.{resting, Cursor, cursor, begin, Goes}
-use Rattle.ring_log.specs.Call as call
 use Rattle.ring_log.proofs.RingLaws.{next_le}
 use Rattle.ring_log.proofs.Walk.{goes_then, goes_ends}
 use Rattle.sweep.specs.Steps.{Sweeps}

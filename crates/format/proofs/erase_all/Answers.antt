@@ -1,5 +1,4 @@
 use mathlib.Core.Path.{refl, ◌∙◌}
-use Prim.Native.Nat.{◌-◌}
 use native.Mathlib.Omega.{arith}
 use Rattle.chip.proofs.Plays.{did_none, did_erase, did_more, did_then}
 use Rattle.format.proofs.Formats.{blank_more, clears_lost, clears_all}

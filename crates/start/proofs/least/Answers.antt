@@ -1,5 +1,4 @@
 use mathlib.Core.Path.{ap, ◌∙◌}
-use Prim.Native.Nat.{◌-◌}
 use native.Mathlib.Omega.{arith}
 use Rattle.start.specs.Least.{least_of}
 use Rattle.start.proofs.Cursor.{least_none, least_more}

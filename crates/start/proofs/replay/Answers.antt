@@ -1,5 +1,4 @@
 use mathlib.Core.Path.{refl, ◌∙◌}
-use Prim.Native.Nat.{◌-◌}
 use native.Mathlib.Omega.{arith}
 use Rattle.start.proofs.Bridge.{rows_begin, rows_next, rows_end}
 use Rattle.start.proofs.replay.Goals as goal

@@ -1,5 +1,4 @@
 use mathlib.Core.Path.{refl, ◌∙◌}
-use Prim.Native.Nat.{◌-◌}
 use native.Mathlib.Omega.{arith}
 use Rattle.start.proofs.Bridge.{block_begins, block_next, block_ends}
 use Rattle.start.proofs.replay_block.Goals as goal

@@ -1,4 +1,3 @@
-use Prim.Native.Nat.{◌-◌}
 use native.Mathlib.Omega.{arith}
 use Rattle.survey.proofs.Counts.{seen_none, small_next, seen_next, seen_all}
 use Rattle.survey.proofs.survey.Goals as goal
