@@ -4,6 +4,7 @@
 // and seven of the count may stay 1.
 #![tactic(auto)]
 
+use std::io;
 use trying::text;
 
 // How many pairs, and how many triples, a cut write may leave.
@@ -21,31 +22,32 @@ fn sound_pair(x: u8, y: u8) -> bool {
     page::is_sound(&page)
 }
 
-fn print_pair(x: u8, y: u8) {
-    text(b"sound: ");
-    trying::byte(x);
-    text(b" ");
-    trying::byte(y);
-    text(b"\n");
+fn print_pair(rt: &impl Print, x: u8, y: u8) -> io::Result<()> {
+    text(rt, b"sound: ")?;
+    trying::byte(rt, x)?;
+    text(rt, b" ")?;
+    trying::byte(rt, y)?;
+    text(rt, b"\n")
 }
 
 // The noise's bits 1 to 7 go to the payload, and its bit 0 to the copy, whose one 0 bit that is.
-fn try_noise(noise: u8) {
+fn try_noise(rt: &impl Print, noise: u8) -> io::Result<()> {
     let x = 0x01 | noise;
     let y = 0xFE | noise;
     if sound_pair(x, y) {
-        print_pair(x, y);
+        print_pair(rt, x, y)?;
     }
+    Ok(())
 }
 
-fn try_pairs() {
+fn try_pairs(rt: &impl Print) -> io::Result<()> {
     let mut pairs: u64 = 0;
     while pairs < PAIRS {
-        try_noise(pairs as u8);
+        try_noise(rt, pairs as u8)?;
         pairs += 1;
     }
-    trying::entry(b"pairs tried: ", pairs);
-    text(b"\n");
+    trying::entry(rt, b"pairs tried: ", pairs)?;
+    text(rt, b"\n")
 }
 
 // ---- the count
@@ -60,47 +62,48 @@ fn sound_triple(x: u8, high: u8, low: u8) -> bool {
     page::is_sound(&page)
 }
 
-fn print_triple(name: &[u8], x: u8, high: u8, low: u8) {
-    text(name);
-    trying::byte(x);
-    text(b" ");
-    trying::byte(high);
-    text(b" ");
-    trying::byte(low);
-    text(b"\n");
+fn print_triple(rt: &impl Print, name: &[u8], x: u8, high: u8, low: u8) -> io::Result<()> {
+    text(rt, name)?;
+    trying::byte(rt, x)?;
+    text(rt, b" ")?;
+    trying::byte(rt, high)?;
+    text(rt, b" ")?;
+    trying::byte(rt, low)?;
+    text(rt, b"\n")
 }
 
 // The page as it is meant.
-fn print_meant() {
+fn print_meant(rt: &impl Print) -> io::Result<()> {
     let mut page = [0u8; 256];
     page[0] = 2;
     page[1] = 0x01;
     let whole = trying::new_page(page);
-    print_triple(b"meant: ", whole[1], whole[254], whole[255]);
+    print_triple(rt, b"meant: ", whole[1], whole[254], whole[255])
 }
 
 // The noise's bits 1 to 7 go to the payload, bits 8 to 12 to the high byte of the count, and bit 0 and bit 13 to the low one.
-fn try_triple(noise: u64) {
+fn try_triple(rt: &impl Print, noise: u64) -> io::Result<()> {
     let x = 0x01 | (noise % 256) as u8;
     let high = 0x07 | (noise / 256 % 32 * 8) as u8;
     let low = 0xEE | (noise % 2) as u8 | (noise / 8192 % 2 * 16) as u8;
     if sound_triple(x, high, low) {
-        print_triple(b"sound: ", x, high, low);
+        print_triple(rt, b"sound: ", x, high, low)?;
     }
+    Ok(())
 }
 
-fn try_triples() {
-    print_meant();
+fn try_triples(rt: &impl Print) -> io::Result<()> {
+    print_meant(rt)?;
     let mut triples: u64 = 0;
     while triples < TRIPLES {
-        try_triple(triples);
+        try_triple(rt, triples)?;
         triples += 1;
     }
-    trying::entry(b"triples tried: ", triples);
-    text(b"\n");
+    trying::entry(rt, b"triples tried: ", triples)?;
+    text(rt, b"\n")
 }
 
-fn main() {
-    try_pairs();
-    try_triples();
+fn main(rt: HostRuntime) -> io::Result<()> {
+    try_pairs(&rt)?;
+    try_triples(&rt)
 }

@@ -6,28 +6,36 @@ mod words;
 
 ghost use Rattle.std.specs.Prelude.{◌≡◌, ◌≤◌, length};
 
-use libc::STDOUT_FILENO;
+use std::io;
+use std::io::Read;
 pub use words::{LONGEST, bytes, line, next, numeral, verb, word};
 
 // Writes the bytes to standard output.
-pub fn text(s: &[u8]) {
-    io::write_all(STDOUT_FILENO, s);
+pub fn text(rt: &impl Print, s: &[u8]) -> io::Result<()> {
+    rt.write_all(s)
 }
 
 // Writes a number in decimal.
-pub fn number(n: u64) {
-    io::print_decimal(STDOUT_FILENO, n);
+pub fn number(rt: &impl Print, n: u64) -> io::Result<()> {
+    print!(rt; "{n}")
 }
 
 // Writes a number after its name.
-pub fn entry(name: &[u8], n: u64) {
-    text(name);
-    number(n);
+pub fn entry(rt: &impl Print, name: &[u8], n: u64) -> io::Result<()> {
+    text(rt, name)?;
+    number(rt, n)
 }
 
 // Writes a byte as two hexadecimal digits.
-pub fn byte(b: u8) {
-    io::print_hex(STDOUT_FILENO, b as u64, 2);
+pub fn byte(rt: &impl Print, b: u8) -> io::Result<()> {
+    print!(rt; "{b:02x}")
+}
+
+// All of standard input.
+pub fn input(rt: &(impl Input + AllocGlobal)) -> io::Result<Vec<u8>> {
+    let mut script = Vec::new(rt.alloc());
+    rt.reader().read_to_end(&mut script)?;
+    Ok(script)
 }
 
 // A byte with all its bits flipped.
@@ -111,37 +119,37 @@ pub fn changed(before: &[u8], after: &[u8], from: usize, to: usize) -> u64
 
 // ---- a report of 512 numbers, 64 of each kind. Its rows are text, a row a line: the kind, the slot of the first number, how many numbers, and the name.
 
-fn print_number(n: u64) {
-    text(b" ");
-    number(n);
+fn print_number(rt: &impl Print, n: u64) -> io::Result<()> {
+    text(rt, b" ")?;
+    number(rt, n)
 }
 
 // The numbers of the slots from there to there.
-fn print_numbers(tally: &[u64; 512], from: usize, to: usize) {
-    let mut i = from;
-    while i < to {
-        print_number(tally[i % 512]);
-        i += 1;
+fn print_numbers(rt: &impl Print, tally: &[u64; 512], from: usize, to: usize) -> io::Result<()> {
+    for i in from..to {
+        print_number(rt, tally[i % 512])?;
     }
+    Ok(())
 }
 
 // KIND SLOT N NAME, the name from column 8 on
-fn print_row(row: &[u8], tally: &[u64; 512]) {
+fn print_row(rt: &impl Print, row: &[u8], tally: &[u64; 512]) -> io::Result<()> {
     if row.len() < 8 {
-        return;
+        return Ok(());
     }
     let kind = (numeral(row, 0) % 8) as usize;
     let from = 64 * kind + (numeral(row, 1) % 64) as usize;
-    text(&row[8..]);
-    print_numbers(tally, from, from + numeral(row, 2) as usize);
-    text(b"\n");
+    text(rt, &row[8..])?;
+    print_numbers(rt, tally, from, from + numeral(row, 2) as usize)?;
+    text(rt, b"\n")
 }
 
 // Writes the rows, each with its numbers.
-pub fn report(rows: &[u8], tally: &[u64; 512]) {
+pub fn report(rt: &impl Print, rows: &[u8], tally: &[u64; 512]) -> io::Result<()> {
     let mut at = 0;
     while at < rows.len() {
-        print_row(line(rows, at), tally);
+        print_row(rt, line(rows, at), tally)?;
         at = next(rows, at);
     }
+    Ok(())
 }

@@ -1,6 +1,6 @@
 // Text in lines, and lines in words.
 ghost use Rattle.std.specs.Prelude.{◌≤◌, ◌<◌, length};
-ghost use Rattle.io.specs.Counts.{IsPrefixLen};
+ghost use Rattle.trying.specs.Counts.{IsPrefixLen};
 
 // The most bytes of a key or a value in a script.
 pub const LONGEST: usize = 256;
@@ -10,7 +10,10 @@ fn seek(s: &[u8], from: usize, b: u8) -> usize
     requires { from ≤ length s.now }
     ensures { (from ≤ result) × (result ≤ length s.now) }
 {
-    bytes::scan::find(s, from, s.len(), b)
+    match s[from..].iter().position(|x| *x == b) {
+        Some(i) => from + i,
+        None => s.len(),
+    }
 }
 
 // Where the next line begins.
@@ -69,7 +72,7 @@ pub fn word(line: &[u8], k: usize) -> &[u8] {
 fn place(line: &[u8], one: &[u8]) -> usize {
     let mut k = 0;
     while k < 16 {
-        if check::same(word(line, k), one) {
+        if word(line, k) == one {
             return k;
         }
         k += 1;
@@ -103,7 +106,7 @@ fn repeat(b: u8, n: u64, out: &mut [u8; LONGEST]) -> usize
     ensures { IsPrefixLen result out.new }
 {
     *out = [b; LONGEST];
-    io::count(n as isize, out)
+    LONGEST.min(n as usize)
 }
 
 // A hexadecimal digit's number; something for any other byte.
@@ -157,7 +160,7 @@ fn copy(s: &[u8], out: &mut [u8; LONGEST]) -> usize
         i = past(s, i);
         n += 1;
     }
-    io::count(n as isize, out)
+    n
 }
 
 // What a word stands for. Answers its length.
