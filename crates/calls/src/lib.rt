@@ -66,9 +66,9 @@ fn put_often(
 ) -> Answer {
     let mut i: u64 = 0;
     while i < end {
-        let mut value = [0u8; 20];
-        let n = io::decimal(i, &mut value);
-        let k = refusal(call(PUT, chip, work, fuse, noise, key, &value[..n]));
+        let mut digits = itoa::Buffer::new();
+        let value = digits.format(i).as_bytes();
+        let k = refusal(call(PUT, chip, work, fuse, noise, key, value));
         if k != 0 {
             return Answer::Refused(k);
         }

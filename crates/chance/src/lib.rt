@@ -100,7 +100,7 @@ fn lay(chip: &mut [u8], p: usize, what: u64, x: &mut u64)
     requires { 256 * p + 256 ≤ length chip.old }
 {
     let page = make_page(what, x);
-    bytes::copy(&page, &mut chip[256 * p..256 * p + 256]);
+    chip[256 * p..256 * p + 256].copy_from_slice(&page);
 }
 
 // What stands in a place: most often a record, or blank.

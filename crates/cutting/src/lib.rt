@@ -16,7 +16,7 @@ fn later(script: &[u8], at: usize, last: usize, key: &[u8]) -> usize
     requires { (at ≤ length script.now) × (last ≤ length script.now) }
     ensures { result ≤ length script.now }
 {
-    if check::same(trying::word(trying::line(script, at), 1), key) {
+    if trying::word(trying::line(script, at), 1) == key {
         return at;
     }
     last
@@ -42,8 +42,8 @@ fn judge(due: &[u8], refusal: u32, n: usize, buffer: &[u8]) -> usize
     if refusal == 4 {
         return if due.len() == 0 { 0 } else { 99 };
     }
-    let m = io::count(due.len() as isize, buffer);
-    if (refusal == 0) & (n != 0) & (n == due.len()) & check::same(due, &buffer[..m]) {
+    let m = due.len().min(buffer.len());
+    if (refusal == 0) & (n != 0) & (n == due.len()) & (due == &buffer[..m]) {
         1
     } else {
         99

@@ -8,7 +8,7 @@
 ghost use Rattle.std.specs.Prelude.{◌≤◌, ◌<◌, length};
 
 use cutting::{Found, LONG};
-use libc::STDIN_FILENO;
+use std::io;
 
 // How a history went: nothing was cut; the map was the one before the call that was cut, or the one after it; or something went wrong.
 const UNCUT: usize = 0;
@@ -133,52 +133,58 @@ fn every_first(
 const NOISES: usize = 5;
 
 // A noise by its name.
-fn print_noise(before: &[u8], which: usize) {
-    trying::text(before);
-    trying::text(trying::word(b"zeros ones mixed forged kept", which));
+fn print_noise(rt: &impl Print, before: &[u8], which: usize) -> io::Result<()> {
+    trying::text(rt, before)?;
+    trying::text(rt, trying::word(b"zeros ones mixed forged kept", which))
 }
 
 // How many cuts went so.
-fn print_tally(tally: &[u64; 4]) {
-    trying::entry(b": as before the call ", tally[BEFORE]);
-    trying::entry(b", as after it ", tally[AFTER]);
-    trying::entry(b", wrong ", tally[WRONG]);
-    trying::text(b"\n");
+fn print_tally(rt: &impl Print, tally: &[u64; 4]) -> io::Result<()> {
+    trying::entry(rt, b": as before the call ", tally[BEFORE])?;
+    trying::entry(rt, b", as after it ", tally[AFTER])?;
+    trying::entry(rt, b", wrong ", tally[WRONG])?;
+    trying::text(rt, b"\n")
 }
 
 // Every cut, with these noises.
-fn try_cuts(script: &[u8], which: usize, then: usize, from: u64, to: u64) {
+fn try_cuts(
+    rt: &impl Print,
+    script: &[u8],
+    which: usize,
+    then: usize,
+    from: u64,
+    to: u64,
+) -> io::Result<()> {
     let mut first = [0u8; 4096];
     calls::make_noise(which, &mut first);
     let mut second = [0u8; 4096];
     calls::make_noise(then, &mut second);
     let mut tally = [0u64; 4];
     every_first(script, &first, &second, from, to, &mut tally);
-    print_tally(&tally);
+    print_tally(rt, &tally)
 }
 
 // Every cut with one noise; or, where again isn't 0, every second cut with noise again - 1 after every first one.
-fn try_noises(script: &[u8], which: usize, again: usize) {
-    print_noise(b"noise ", which);
+fn try_noises(rt: &impl Print, script: &[u8], which: usize, again: usize) -> io::Result<()> {
+    print_noise(rt, b"noise ", which)?;
     if again == 0 {
-        try_cuts(script, which, which, 0, 1);
-        return;
+        return try_cuts(rt, script, which, which, 0, 1);
     }
-    print_noise(b", then ", again - 1);
-    try_cuts(script, which, again - 1, 1, 300);
+    print_noise(rt, b", then ", again - 1)?;
+    try_cuts(rt, script, which, again - 1, 1, 300)
 }
 
 // Every noise; then every two noises.
-fn try_all(script: &[u8]) {
+fn try_all(rt: &impl Print, script: &[u8]) -> io::Result<()> {
     let mut i = 0;
     while i < NOISES * (NOISES + 1) {
-        try_noises(script, i % NOISES, i / NOISES);
+        try_noises(rt, script, i % NOISES, i / NOISES)?;
         i += 1;
     }
+    Ok(())
 }
 
-fn main() {
-    let mut script = io::large_buffer();
-    let n = io::read_full(STDIN_FILENO, &mut script);
-    try_all(&script[..n]);
+fn main(rt: HostRuntime) -> io::Result<()> {
+    let script = trying::input(&rt)?;
+    try_all(&rt, &script)
 }

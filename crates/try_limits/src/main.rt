@@ -16,69 +16,90 @@
 // In a key or a value `v*221` stands for 221 times v, and `%7f` for the byte 0x7F.
 #![tactic(auto)]
 
-ghost use Rattle.std.specs.Prelude.{◌≤◌, ◌<◌, length};
-ghost use Rattle.io.specs.Counts.{IsPrefixLen};
+ghost use Rattle.std.specs.Prelude.{◌≤◌, ◌<◌, length, IfOk};
+ghost use Rattle.trying.specs.Counts.{IsPrefixLen};
 
-use libc::STDIN_FILENO;
+use std::io;
 use trying::LONGEST;
 
 // ---- what a line is answered
 
 // The answer of a call that answers no number.
-fn say(k: u32) {
+fn say(rt: &impl Print, k: u32) -> io::Result<()> {
     if k == 0 {
-        trying::text(b": done");
-        return;
+        return trying::text(rt, b": done");
     }
-    trying::text(b": refused ");
-    trying::number(k as u64);
+    trying::text(rt, b": refused ")?;
+    trying::number(rt, k as u64)
 }
 
 // The answer of get or count.
-fn tell(k: u32, n: usize) {
+fn tell(rt: &impl Print, k: u32, n: usize) -> io::Result<()> {
     if k != 0 {
-        say(k);
-        return;
+        return say(rt, k);
     }
-    trying::text(b": answers ");
-    trying::number(n as u64);
+    trying::text(rt, b": answers ")?;
+    trying::number(rt, n as u64)
 }
 
 // get KEY N, with that buffer: it is printed whole, so that one sees what was left as it was.
-fn tell_get(line: &[u8], chip: &[u8], work: &[u32], fuse: &u64, buffer: &mut [u8]) {
+fn tell_get(
+    rt: &impl Print,
+    line: &[u8],
+    chip: &[u8],
+    work: &[u32],
+    fuse: &u64,
+    buffer: &mut [u8],
+) -> io::Result<()> {
     let mut key = [0u8; LONGEST];
     let k = trying::bytes(line, 1, &mut key);
     let answer = calls::get(chip, work, fuse, &key[..k], buffer);
-    tell(calls::refusal(answer), calls::amount(answer));
-    trying::text(b", buffer '");
-    trying::text(buffer);
-    trying::text(b"'");
+    tell(rt, calls::refusal(answer), calls::amount(answer))?;
+    trying::text(rt, b", buffer '")?;
+    trying::text(rt, buffer)?;
+    trying::text(rt, b"'")
 }
 
 // get KEY N, count
-fn tell_line(which: usize, line: &[u8], chip: &[u8], work: &[u32], fuse: &u64) {
+fn tell_line(
+    rt: &impl Print,
+    which: usize,
+    line: &[u8],
+    chip: &[u8],
+    work: &[u32],
+    fuse: &u64,
+) -> io::Result<()> {
     if which == 1 {
         let answer = calls::count(chip, work, fuse);
-        tell(calls::refusal(answer), calls::amount(answer));
-        return;
+        return tell(rt, calls::refusal(answer), calls::amount(answer));
     }
     let mut buffer = [b'.'; LONGEST];
-    let n = io::count(trying::numeral(line, 2) as isize, &buffer);
-    tell_get(line, chip, work, fuse, &mut buffer[..n]);
+    let n = buffer.len().min(trying::numeral(line, 2) as usize);
+    tell_get(rt, line, chip, work, fuse, &mut buffer[..n])
 }
 
 // ---- the script
 
 // A line with a call.
-fn play_call(line: &[u8], chip: &mut [u8], work: &mut [u32], fuse: &mut u64, noise: &[u8; 4096]) {
+fn play_call(
+    rt: &impl Print,
+    line: &[u8],
+    chip: &mut [u8],
+    work: &mut [u32],
+    fuse: &mut u64,
+    noise: &[u8; 4096],
+) -> io::Result<()> {
     let which = trying::verb(b"get count fuse noise #", line);
     if which < 2 {
-        tell_line(which, line, chip, work, fuse);
-        return;
+        return tell_line(rt, which, line, chip, work, fuse);
     }
     if which == 16 {
-        say(calls::refusal(calls::make(line, chip, work, fuse, noise)));
+        say(
+            rt,
+            calls::refusal(calls::make(line, chip, work, fuse, noise)),
+        )?;
     }
+    Ok(())
 }
 
 // fuse N, noise NAME
@@ -96,22 +117,29 @@ fn set(line: &[u8], fuse: &mut u64, noise: &mut [u8; 4096]) {
 
 // One line, and what it is answered.
 fn play_line(
+    rt: &impl Print,
     line: &[u8],
     chip: &mut [u8],
     work: &mut [u32],
     fuse: &mut u64,
     noise: &mut [u8; 4096],
-) {
-    trying::text(line);
+) -> io::Result<()> {
+    trying::text(rt, line)?;
     set(line, fuse, noise);
-    play_call(line, chip, work, fuse, noise);
-    trying::text(b"\n");
+    play_call(rt, line, chip, work, fuse, noise)?;
+    trying::text(rt, b"\n")
 }
 
 // The lines from there on, up to the next chip that is lent. Answers where that is.
-fn play_on(script: &[u8], from: usize, chip: &mut [u8], work: &mut [u32]) -> usize
+fn play_on(
+    rt: &impl Print,
+    script: &[u8],
+    from: usize,
+    chip: &mut [u8],
+    work: &mut [u32],
+) -> io::Result<usize>
     requires { from ≤ length script.now }
-    ensures { (from ≤ result) × (result ≤ length script.now) }
+    ensures { IfOk result (λ n. (from ≤ n) × (n ≤ length script.now)) }
 {
     let mut fuse: u64 = 1000000000;
     let mut noise = [0u8; 4096];
@@ -121,10 +149,10 @@ fn play_on(script: &[u8], from: usize, chip: &mut [u8], work: &mut [u32]) -> usi
         if trying::verb(b"lend", line) == 0 {
             break;
         }
-        play_line(line, chip, work, &mut fuse, &mut noise);
+        play_line(rt, line, chip, work, &mut fuse, &mut noise)?;
         at = trying::next(script, at);
     }
-    at
+    Ok(at)
 }
 
 // So many words, or all.
@@ -138,18 +166,19 @@ fn count(n: u64, work: &[u32]) -> usize
 }
 
 // lend N BYTE M: at most five blocks and 96 words
-fn play_lent(script: &[u8], from: usize) -> usize
+fn play_lent(rt: &impl Print, script: &[u8], from: usize) -> io::Result<usize>
     requires { from < length script.now }
-    ensures { (from < result) × (result ≤ length script.now) }
+    ensures { IfOk result (λ n. (from < n) × (n ≤ length script.now)) }
 {
     let line = trying::line(script, from);
-    trying::text(line);
-    trying::text(b"\n");
+    trying::text(rt, line)?;
+    trying::text(rt, b"\n")?;
     let mut chip = [(trying::numeral(line, 2) % 256) as u8; 20480];
     let mut work = [0u32; 96];
-    let n = io::count(trying::numeral(line, 1) as isize, &chip);
+    let n = chip.len().min(trying::numeral(line, 1) as usize);
     let m = count(trying::numeral(line, 3), &work);
     play_on(
+        rt,
         script,
         trying::next(script, from),
         &mut chip[..n],
@@ -158,15 +187,15 @@ fn play_lent(script: &[u8], from: usize) -> usize
 }
 
 // Plays the script, from chip to chip.
-fn play(script: &[u8]) {
+fn play(rt: &impl Print, script: &[u8]) -> io::Result<()> {
     let mut at = 0;
     while at < script.len() {
-        at = play_lent(script, at);
+        at = play_lent(rt, script, at)?;
     }
+    Ok(())
 }
 
-fn main() {
-    let mut script = io::large_buffer();
-    let n = io::read_full(STDIN_FILENO, &mut script);
-    play(&script[..n]);
+fn main(rt: HostRuntime) -> io::Result<()> {
+    let script = trying::input(&rt)?;
+    play(&rt, &script)
 }

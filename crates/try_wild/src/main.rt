@@ -6,7 +6,7 @@
 ghost use Rattle.std.specs.Prelude.{◌<◌};
 
 use calls::{DELETE, FORMAT, PUT};
-use libc::STDIN_FILENO;
+use std::io;
 
 // How many chips, and how many work areas, are tried.
 const CHIPS: usize = 800;
@@ -151,10 +151,9 @@ fn try_all(tally: &mut [u64; 512]) {
     }
 }
 
-fn main() {
+fn main(rt: HostRuntime) -> io::Result<()> {
     let mut tally = [0u64; 512];
     try_all(&mut tally);
-    let mut rows = io::large_buffer();
-    let n = io::read_full(STDIN_FILENO, &mut rows);
-    trying::report(&rows[..n], &tally);
+    let rows = trying::input(&rt)?;
+    trying::report(&rt, &rows, &tally)
 }
