@@ -60,6 +60,16 @@ fn tell_get(
     trying::text(rt, b"'")
 }
 
+// So many bytes, or all.
+fn count_bytes(n: u64, bytes: &[u8]) -> usize
+    ensures { IsPrefixLen result bytes.now }
+{
+    if n < bytes.len() as u64 {
+        return n as usize;
+    }
+    bytes.len()
+}
+
 // get KEY N, count
 fn tell_line(
     rt: &impl Print,
@@ -74,7 +84,7 @@ fn tell_line(
         return tell(rt, calls::refusal(answer), calls::amount(answer));
     }
     let mut buffer = [b'.'; LONGEST];
-    let n = buffer.len().min(trying::numeral(line, 2) as usize);
+    let n = count_bytes(trying::numeral(line, 2), &buffer);
     tell_get(rt, line, chip, work, fuse, &mut buffer[..n])
 }
 
@@ -175,7 +185,7 @@ fn play_lent(rt: &impl Print, script: &[u8], from: usize) -> io::Result<usize>
     trying::text(rt, b"\n")?;
     let mut chip = [(trying::numeral(line, 2) % 256) as u8; 20480];
     let mut work = [0u32; 96];
-    let n = chip.len().min(trying::numeral(line, 1) as usize);
+    let n = count_bytes(trying::numeral(line, 1), &chip);
     let m = count(trying::numeral(line, 3), &work);
     play_on(
         rt,
