@@ -162,7 +162,7 @@ pub fn ended(script: &[u8], chip: &mut [u8], work: &mut [u32], noise: &[u8; 4096
 // ---- a cut
 
 // Which call was cut, by its place; the script's length for none. And of which place the map is that was then found; 0 if something went wrong.
-#[derive(Drop)]
+#[derive(Clone, Copy)]
 pub struct Found {
     pub call: usize,
     pub map: usize,
