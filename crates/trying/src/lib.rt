@@ -4,7 +4,7 @@
 
 mod words;
 
-ghost use Rattle.std.specs.Prelude.{◌≡◌, ◌≤◌, length};
+ghost use Rattle.std.specs.Prelude.{◌≡◌, ◌≤◌, length, IfOk, vec_len};
 
 use std::io;
 use std::io::Read;
@@ -31,10 +31,16 @@ pub fn byte(rt: &impl Print, b: u8) -> io::Result<()> {
     print!(rt; "{b:02x}")
 }
 
-// All of standard input.
-pub fn input(rt: &(impl Input + AllocGlobal)) -> io::Result<Vec<u8>> {
+// The most bytes of standard input that a program looks at.
+const LOOKED_AT: usize = 65536;
+
+// Standard input, of which no more is kept than is looked at.
+pub fn input(rt: &(impl Input + AllocGlobal)) -> io::Result<Vec<u8>>
+    ensures { IfOk result (λ v. vec_len v ≤ 65536) }
+{
     let mut script = Vec::new(rt.alloc());
     rt.reader().read_to_end(&mut script)?;
+    script.truncate(LOOKED_AT);
     Ok(script)
 }
 
