@@ -32,7 +32,7 @@ use Rattle.start.specs.Started.{StartsBy, StartEnds}
 use Rattle.lent.specs.declared.Answer.{Answer}
 use Rattle.lent.specs.declared.Answer.TheVariants.{Done, Refused}
 use Rattle.histories.specs.History.{Phase, off, on, started, failed, History, reached, clean, late_after, late, begin, found, dark, lend, start, put, delete, get, count}
-use Rattle.histories.specs.History.{next as nextStep}
+use Rattle.histories.specs.History.{next as next_step}
 use Rattle.histories.proofs.Histories.{Tends, tends_kept, lent_on_lem, blocks_are, few_table, goes_dark, lit_on, lit_before, lives}
 
 module _ (B : ℕ) (big : 4 ≤ B) where
@@ -233,7 +233,7 @@ module _ (B : ℕ) (big : 4 ≤ B) where
       (λ m d. lit_on B big f w c _ m (sym (lent_on_lem c f w _ (lives B big h).tended) ∙ d)) (in_time h)
   in_time (get key b b' r e h) = in_time h
   in_time (count r e h) = in_time h
-  in_time (nextStep key b b' r e h) = in_time h
+  in_time (next_step key b b' r e h) = in_time h
 
   module _ {noise : List ℕ} {f : ℕ} {w c : List ℕ} {n q : ℕ} {ops : List Op} (h : History B (on noise f w) c n q ops) (l : late h ≤ 5) where
     pub put_short : (key value c' : List ℕ) (f' : ℕ) (w' : List ℕ) (r : Answer) (e : PutEnds noise c f w key value c' f' w' r)

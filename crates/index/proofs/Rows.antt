@@ -12,7 +12,7 @@ use Rattle.ring_log.specs.Key.{Key, ◌≺◌}
 use Rattle.ring_log.specs.Map.{Map, alter, keys}
 use Rattle.ring_log.specs.Log.{Placed, page_of, oldest, run, bytes, pages}
 use Rattle.ring_log.specs.Ring.{chip_of, head, table_at, table, map_of}
-use Rattle.ring_log.specs.Opening.{key_at as rowKey, none_there}
+use Rattle.ring_log.specs.Opening.{key_at as key_of_row, none_there}
 use Rattle.ring_log.proofs.Window.{page_lt}
 use Rattle.ring_log.proofs.MapMore.{sorted_at}
 use Rattle.ring_log.proofs.LogLaws.{Stands}
@@ -30,7 +30,7 @@ unfolding keys
 keys_length [] = refl
 keys_length (p ∷ m) = ap suc (keys_length m)
 
-keys_at : (m : Map Placed) (i : ℕ) → get_or (keys m) i [] ≡ rowKey none_there m i
+keys_at : (m : Map Placed) (i : ℕ) → get_or (keys m) i [] ≡ key_of_row none_there m i
 unfolding keys
 keys_at [] i = refl
 keys_at (p ∷ m) zero = refl
@@ -48,7 +48,7 @@ module _ (B : ℕ) (big : 4 ≤ B) (c : List ℕ) (size : length c ≡ 4096 * B)
 
   -- ---- ENTRY i OF THE INDEX
   module _ (i : ℕ) (h : i < length rows) where
-    pub stands : Stands B (rec_at c) (oldest B e) (s - oldest B e) (rowKey none_there rows i) (get_or rows i none_there).1
+    pub stands : Stands B (rec_at c) (oldest B e) (s - oldest B e) (key_of_row none_there rows i) (get_or rows i none_there).1
     stands = index_stands B (rec_at c) e s none_there i h
 
     -- it is a page of the chip
@@ -56,7 +56,7 @@ module _ (B : ℕ) (big : 4 ≤ B) (c : List ℕ) (size : length c ≡ 4096 * B)
     entry_inside = let l : 0 < B = omega arith in omega (arith, pages_at B none_there rows i h, page_lt B (get_or rows i none_there).1.0 l, size)
 
     -- and the key there is that of row i
-    pub entry_key : key_at c (get_or (pages B rows) i 0) ≡ rowKey none_there rows i
+    pub entry_key : key_at c (get_or (pages B rows) i 0) ≡ key_of_row none_there rows i
     entry_key = ap (key_at c) (pages_at B none_there rows i h) ∙ says_key c (page_of B (get_or rows i none_there).1.0) stands.rec stands.there ∙ stands.key
 
   pub length_pages : length (pages B rows) ≡ length rows
@@ -69,22 +69,22 @@ module _ (B : ℕ) (big : 4 ≤ B) (c : List ℕ) (size : length c ≡ 4096 * B)
         inside = λ i h. entry_inside i (omega (arith, length_pages));
         rising = λ i j l h.
             subst (λ (k : Key). k ≺ key_at c (get_or (pages B rows) j 0)) (sym (entry_key i (omega (arith, length_pages))))
-            (subst (λ (k : Key). rowKey none_there rows i ≺ k) (sym (entry_key j (omega (arith, length_pages)))) (sorted_at rows i j none_there (run_sorted B (rec_at c) e s) l (omega (arith, length_pages))));
+            (subst (λ (k : Key). key_of_row none_there rows i ≺ k) (sym (entry_key j (omega (arith, length_pages)))) (sorted_at rows i j none_there (run_sorted B (rec_at c) e s) l (omega (arith, length_pages))));
       }
 
   -- ---- A SEARCH FOR k
   module _ (k : Key) where
     -- key i of the index is that of row i
-    pub nth : (i : ℕ) → i < length rows → get_or (keys_of c (pages B rows)) i [] ≡ rowKey none_there rows i
+    pub nth : (i : ℕ) → i < length rows → get_or (keys_of c (pages B rows)) i [] ≡ key_of_row none_there rows i
     nth i h = nth_key c (pages B rows) i (omega (arith, length_pages)) ∙ entry_key i h
 
     pub length_rows : length (keys_of c (pages B rows)) ≡ length rows
     length_rows = length_keys c (pages B rows) ∙ length_pages
 
-    pub before : (i : ℕ) → i ≤ length rows → ((j : ℕ) → j < i → get_or (keys_of c (pages B rows)) j [] ≺ k) → (j : ℕ) → j < i → rowKey none_there rows j ≺ k
+    pub before : (i : ℕ) → i ≤ length rows → ((j : ℕ) → j < i → get_or (keys_of c (pages B rows)) j [] ≺ k) → (j : ℕ) → j < i → key_of_row none_there rows j ≺ k
     before i h f j l = subst (λ (x : Key). x ≺ k) (nth j (omega arith)) (f j l)
 
-    pub behind : (i : ℕ) → ((j : ℕ) → i ≤ j → j < length (keys_of c (pages B rows)) → k ≺ get_or (keys_of c (pages B rows)) j []) → (j : ℕ) → i ≤ j → j < length rows → k ≺ rowKey none_there rows j
+    pub behind : (i : ℕ) → ((j : ℕ) → i ≤ j → j < length (keys_of c (pages B rows)) → k ≺ get_or (keys_of c (pages B rows)) j []) → (j : ℕ) → i ≤ j → j < length rows → k ≺ key_of_row none_there rows j
     behind i f j l h = subst (λ (x : Key). k ≺ x) (nth j h) (f j l (omega (arith, length_rows)))
 
     -- a page put in where it ended is the row of k

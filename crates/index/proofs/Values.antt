@@ -10,7 +10,7 @@ use Rattle.record.proofs.Reading.{says_value}
 use Rattle.ring_log.specs.Key.{Key}
 use Rattle.ring_log.specs.Map.{Map, lookup, map_o}
 use Rattle.ring_log.specs.Log.{Placed, page_of, oldest, run, bytes, pages}
-use Rattle.ring_log.specs.Opening.{key_at as rowKey, none_there}
+use Rattle.ring_log.specs.Opening.{key_at as key_of_row, none_there}
 use Rattle.ring_log.proofs.MapMore.{lookup_map_v}
 use Rattle.ring_log.proofs.LogLaws.{Stands}
 use Rattle.ring_log.proofs.Clean.{run_sorted}
@@ -29,7 +29,7 @@ module _ (B : ℕ) (big : 4 ≤ B) (c : List ℕ) (size : length c ≡ 4096 * B)
   -- the value that stands on the page of entry i is that of row i
   entry_value : (i : ℕ) → i < length rows → value_at c (get_or (pages B rows) i 0) ≡ (get_or rows i none_there).1.1
   entry_value i h =
-      let t : Stands B (rec_at c) (oldest B e) (s - oldest B e) (rowKey none_there rows i) (get_or rows i none_there).1 = index_stands B (rec_at c) e s none_there i h in
+      let t : Stands B (rec_at c) (oldest B e) (s - oldest B e) (key_of_row none_there rows i) (get_or rows i none_there).1 = index_stands B (rec_at c) e s none_there i h in
       ap (value_at c) (pages_at B none_there rows i h) ∙ says_value c (page_of B (get_or rows i none_there).1.0) t.rec t.there (get_or rows i none_there).1.1 t.what
 
   module _ (k : Key) (i : ℕ) where

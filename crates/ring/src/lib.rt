@@ -1,5 +1,5 @@
 // The ring (document 03, section 3): its head, its next place, and where its log begins, found by the seals. Nothing is written. The ring itself is defined in
-// the crate `log` (specs/Ring.antt), what these functions answer in specs/Seals.antt.
+// the crate `ring_log` (specs/Ring.antt), what these functions answer in specs/Seals.antt.
 #![tactic(auto)]
 
 ghost use Rattle.std.specs.Prelude.{not, ◌≡◌, ◌≤◌, ◌<◌, ◌*◌, ◌+◌, ◌-◌, length};

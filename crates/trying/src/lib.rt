@@ -4,7 +4,7 @@
 
 mod words;
 
-ghost use Rattle.std.specs.Prelude.{◌≡◌, ◌≤◌, length, IfOk, vec_len};
+ghost use Rattle.std.specs.Prelude.{◌≡◌, ◌≤◌, length};
 
 use std::io;
 use std::io::Read;
@@ -31,16 +31,13 @@ pub fn byte(rt: &impl Print, b: u8) -> io::Result<()> {
     print!(rt; "{b:02x}")
 }
 
-// The most bytes of standard input that a program looks at.
-const LOOKED_AT: usize = 65536;
+// The most bytes of standard input that a program reads.
+const MOST_INPUT: u64 = 65536;
 
-// Standard input, of which no more is kept than is looked at.
-pub fn input(rt: &(impl Input + AllocGlobal)) -> io::Result<Vec<u8>>
-    ensures { IfOk result (λ v. vec_len v ≤ 65536) }
-{
+// Standard input, or as much of it as is read.
+pub fn input(rt: &(impl Input + AllocGlobal)) -> io::Result<Vec<u8>> {
     let mut script = Vec::new(rt.alloc());
-    rt.reader().read_to_end(&mut script)?;
-    script.truncate(LOOKED_AT);
+    rt.reader().take(MOST_INPUT).read_to_end(&mut script)?;
     Ok(script)
 }
 
