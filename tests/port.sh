@@ -19,7 +19,8 @@ tools/cc.sh target/c/history -Itests/port tests/port/history.c tests/port/linux.
 mkdir "$room/back" && tools/port_module.sh && python3 tools/port.py target/port/floatstore.ll include 64 "$room/back" && cd "$room/back" || exit 1
 sed -i 's/ optsize//' floatstore.ll
 "$toolchain/bin/clang" --target=x86_64-unknown-linux-gnu -march=x86-64 -O3 -fPIC -ffunction-sections -fdata-sections -mllvm -trap-unreachable \
-  -mllvm -no-trap-after-noreturn --no-default-config -Wno-override-module -c floatstore.ll -o floatstore.o || exit 1
+  -mllvm -no-trap-after-noreturn -mllvm -no-x86-call-frame-opt -mllvm -disable-machine-licm -mllvm -disable-postra-machine-licm \
+  -mllvm -sink-common-insts=false --no-default-config -Wno-override-module -c floatstore.ll -o floatstore.o || exit 1
 "$toolchain/bin/llvm-ar" p "$top/target/staticlib/libfloatstore.a" >kit.o
 cmp floatstore.o kit.o || { echo "the module without what names x86-64 gives other code on x86-64"; exit 1; }
 cd "$top" || exit 1

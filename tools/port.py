@@ -3,12 +3,15 @@
 OUT/floatstore.ll, the chip in memory, and OUT/floatstore_driver.ll, the chip behind a driver. INCLUDE has both headers.
 
 1. Every line must be of a form that is listed here. Why these mean the same where a pointer has 32 bits: Rattle lays out its own data. A place on the stack is
-a number of bytes with an alignment, a field is reached by a number of bytes, a slice is 16 bytes, its pointer at 0 and its length, an i64, at 8. A narrower
-pointer takes less of its 8 bytes, and whoever copies a place copies all of it. So nothing changes as long as no pointer becomes a number or a number a pointer,
-no type has a size that LLVM takes from the target but ptr itself, no byte of a place is part of a pointer here and of a number there, pointers stand in such
-places only and not in what is lent, and there is no global data, no inline assembly, and no call but of the module's own functions, memmove, memset, trap and
-ctpop, which counts the bits of a number.
+a number of bytes with an alignment, a field is reached by a number of bytes, a slice in a place is 16 bytes, its pointer at 0 and its length, an i64, at 8. A
+narrower pointer takes less of its 8 bytes, and whoever copies a place copies all of it, or fills it with zeros. So nothing changes as long as no pointer
+becomes a number or a number a pointer, no type has a size that LLVM takes from the target but ptr itself, no byte of a place is part of a pointer here and of a number
+there, pointers stand in such places only and not in what is lent, and whole, and whoever looks into a place with a pointer has it by name or was handed it, and
+there is no global data, no inline assembly, and no call but of the module's own functions, memmove, memset, trap and ctpop, which counts the bits of a number.
 A number of bytes that is added to a pointer is an i64, of which 32 bits are taken: right for every object that lies in the memory.
+A function hands over a slice, or an enum with what it has, as two words: two parameters, or a pair as its answer. Of a pair no size matters but where one is
+loaded from a place, 8 bytes apart; where BITS is 32 it becomes two loads. A slice that is written out and has no byte begins at a datum of no byte, of which
+nothing can be read. An exported function makes 4096 of a null pointer, for a slice without an element: null is null on every target.
 
 2. The headers must declare what the module exports. Then what names x86-64 goes, and where BITS is 32 each exported function gets one of its name before it
 that takes its lengths as size_t, as the header says, and widens them.
@@ -26,15 +29,22 @@ V = r"(?:%[\w.]+|-?\d+|true|false)"
 P = r"%[\w.]+"
 I = r"i(?:1|8|16|32|64)"
 T = r"(?:i1|i8|i16|i32|i64|ptr)"
+PAIR = r"\{ (?:i8|ptr), i64 \}"  # what two registers hold: a slice, or an enum's number and what it has; never a place's type
+R = rf"(?:{T}|{PAIR})"
+EMPTY = r"@static\.\d+"  # a slice's beginning where it has no byte
 NAME = r'@(?:"[\w:<>, &\[\]]+"|(?!llvm)[\w.]+)'
 INSIDE = [
     rf"{P} = alloca (?:i8|i16|i32|i64|ptr|\[\d+ x i8\]), align [1248]",
     rf"{P} = load (?:i8|i16|i32|i64|ptr), ptr {P}, align [1248](?:, !\w+ !\d+)*",
     rf"store (?:i8|i16|i32|i64|ptr) {V}, ptr {P}, align [1248]",
+    rf"store ptr {EMPTY}, ptr {P}, align 8",
+    rf"{P} = load {PAIR}, ptr {P}, align 8",
+    rf"{P} = extractvalue {PAIR} {P}, [01]",
     rf"{P} = getelementptr (?:inbounds nuw )?i8, ptr {P}, i64 {V}",
     rf"{P} = (?:add|sub|mul|shl)(?: nuw)?(?: nsw)? {I} {V}, {V}",
     rf"{P} = (?:udiv|urem|sdiv|srem|lshr|ashr|and|or|xor) {I} {V}, {V}",
     rf"{P} = icmp (?:eq|ne|[us][lg][te]) {I} {V}, {V}",
+    rf"{P} = icmp eq ptr {P}, null",  # the first line of LENT, and nowhere else
     rf"{P} = (?:zext|sext|trunc)(?: nuw)?(?: nsw)? {I} {V} to {I}",
     rf"br label {P}",
     rf"br i1 {V}, label {P}, label {P}",
@@ -42,37 +52,45 @@ INSIDE = [
     rf"{I} -?\d+, label {P}",
     r"\]",
     r"unreachable",
-    rf"ret (?:void|{T} {V})",
-    rf"(?:{P} = )?call (?:void|{T}) {NAME}\((?:{T} {V}(?:, {T} {V})*)?\)",
+    rf"ret (?:void|{R} {V})",
+    rf"(?:{P} = )?call (?:void|{R}) {NAME}\((?:{T} {V}(?:, {T} {V})*)?\)",
     rf"call void @llvm\.memmove\.p0\.p0\.i64\(ptr {P}, ptr {P}, i64 {V}, i1 false\)",
     rf"call void @llvm\.memset\.p0\.i64\(ptr {P}, i8 {V}, i64 {V}, i1 false\)",
     rf"{P} = call (?:i8 @llvm\.ctpop\.i8\(i8|i64 @llvm\.ctpop\.i64\(i64) {V}\)",
     r"call void @llvm\.trap\(\)(?: #\d+)?",
 ]
-PARAMETER = rf"{T} noundef(?: zeroext)? {P}"
-DEFINE = rf"define (internal )?(?:noundef )?(?:zeroext )?(void|{T}) ({NAME})\(((?:{PARAMETER}(?:, {PARAMETER})*)?)\) #0 \{{"
+# a slice that is lent from outside: its pointer, or 4096 where that is null, since a slice without an element has an address too
+LENT = [
+    rf"({P}) = icmp eq ptr ({P}), null",
+    rf"({P}) = zext i1 ({P}) to i64",
+    rf"({P}) = mul i64 ({P}), 4096",
+    rf"({P}) = getelementptr i8, ptr ({P}), i64 ({P})",
+]
+PARAMETER = rf"{T}(?: noundef)?(?: zeroext)? {P}"
+DEFINE = rf"define (internal )?(?:noundef )?(?:zeroext )?(void|{R}) ({NAME})\(((?:{PARAMETER}(?:, {PARAMETER})*)?)\) #0 \{{"
 OUTSIDE = [
     r"",
     r";.*",
     r'source_filename = "rattle"',
     r'target datalayout = "e-m:e-p270:32:32-p271:32:32-p272:64:64-i64:64-i128:128-f80:128-n8:16:32:64-S128"',
     r'target triple = "x86_64-unknown-linux-gnu"',
+    rf"{EMPTY} = private unnamed_addr constant \[0 x i8\] zeroinitializer, align 1",
     DEFINE,
     r"\}",
     r"[\w.]+:(?:\s+; preds = .*)?",
     r"declare void @llvm\.(?:memmove|memset|trap)[\w.]*\(.*\) #[1-9]",
     r"declare (?:i8 @llvm\.ctpop\.i8\(i8|i64 @llvm\.ctpop\.i64\(i64)\) #[1-9]",
-    r'attributes #0 = \{ nounwind "probe-stack"="inline-asm" "target-cpu"="x86-64" \}',
+    r'attributes #0 = \{ nounwind "probe-stack"="inline-asm" "stack-probe-size"="3072" "target-cpu"="x86-64" \}',
     r"attributes #[1-9] = \{[\w (),:]*\}",
     r"!llvm\.ident = !\{!0\}",
     r'!\d+ = !\{(?:!"rattle logic=[0-9a-f]+"|i8 0, i8 2)?\}',  # a module that wasn't proved says "unproved"
 ]
 inside = re.compile("|".join(f"(?:{f})" for f in INSIDE))
 outside = re.compile("|".join(f"(?:{f})" for f in OUTSIDE))
-SWAPPED = {'@"chip::read"': "ptr i64 ptr", '@"chip::write"': "ptr i64 ptr ptr ptr", '@"chip::erase"': "ptr i64 ptr ptr"}
-PLACES = {  # which of their parameters are slices of the chip, and of the noise
+SWAPPED = {'@"chip::read"': "ptr i64 i64 ptr i64", '@"chip::write"': "ptr i64 i64 ptr i64 ptr ptr i64", '@"chip::erase"': "ptr i64 i64 ptr ptr i64"}
+PLACES = {  # which of their parameters are the chip, and the noise
     "chip": [('@"chip::read"', 0), ('@"chip::write"', 0), ('@"chip::erase"', 0)],
-    "noise": [('@"chip::write"', 4), ('@"chip::erase"', 3)],
+    "noise": [('@"chip::write"', 6), ('@"chip::erase"', 4)],
 }
 
 
@@ -81,12 +99,22 @@ def refuse(why):
 
 
 class Function:
-    """A function of the module: its name, whether it is exported, its parameters [(type, name)], and its lines [(number, line)]."""
+    """A function of the module: its name, whether it is exported, its parameters [(type, name)], its lines [(number, line)], and the numbers of those lines
+    that make a pointer of one that is lent from outside (LENT)."""
 
     def __init__(self, m):
         self.internal, self.result, self.name = m[1] is not None, m[2], m[3]
         self.parameters = [(p.split()[0], p.split()[-1]) for p in m[4].split(", ") if p]
-        self.lines = []
+        self.lines, self.lent = [], set()
+
+    def find_lent(self):
+        for i, (number, line) in enumerate(self.lines):
+            if " = icmp eq ptr " in line:
+                m = [re.fullmatch(form, said) for form, (_, said) in zip(LENT, self.lines[i : i + 4])]
+                known = len(m) == 4 and all(m) and not self.internal and ("ptr", m[0][2]) in self.parameters
+                if not known or (m[1][2], m[2][2], m[3][2], m[3][3]) != (m[0][1], m[1][1], m[0][2], m[2][1]):
+                    refuse(f"line {number} of the module has a form that isn't known here, with the three after it: {line}")
+                self.lent.add(self.lines[i + 3][0])
 
 
 def read_module(text):
@@ -103,8 +131,9 @@ def read_module(text):
     names = {f.name for f in functions}
     for f in functions:
         for number, line in f.lines:
-            if (m := re.search(rf"call (?:void|{T}) ({NAME})\(", line)) and m[1] not in names:
+            if (m := re.search(rf"call (?:void|{R}) ({NAME})\(", line)) and m[1] not in names:
                 refuse(f"line {number} of the module calls a function that it doesn't have: {line}")
+        f.find_lent()
     return functions
 
 
@@ -115,6 +144,8 @@ def check_places(functions):
     kinds = collections.defaultdict(dict)  # of a place: the bytes that are known, and whether each is part of a pointer
     plain = {}  # places that have no pointer: a line takes a byte of them as part of a number, and which byte that is isn't known here
     copies = []  # (a, b, n, why): n bytes from a on are as those from b on; a and b are (place, how far in)
+    holding, kept = [], {}  # the places that hold a pointer, and those whose own address is kept somewhere; and the lines that say so
+    handed = collections.defaultdict(list)  # of a parameter: the places that it is given; None is a pointer that isn't known to lead to one
 
     def mark(place, far, is_pointer, why):
         if kinds[place].setdefault(far, is_pointer) != is_pointer or (is_pointer and place in plain):
@@ -123,14 +154,22 @@ def check_places(functions):
     for f in functions:
         at = {name: ((f.name, name), 0) for kind, name in f.parameters if kind == "ptr"}  # of a pointer: the place that it points into, how far in
 
-        def numbers(name, n, why):
+        def pointer(name, why):
+            """A pointer stands there."""
+            if name not in at or at[name][1] is None:
+                refuse(f"a pointer stands where the module has no place for one: {why}")
+            holding.append((at[name][0], why))
+            for i in range(8):
+                mark(at[name][0], at[name][1] + i, True, why)
+
+        def numbers(name, n, why, on=0):
             """The n bytes from there on are parts of numbers."""
             if name in at:
                 place, far = at[name]
                 if far is None or n is None:
                     plain.setdefault(place, why)
                 for i in range(0 if far is None else n or 0):
-                    mark(place, far + i, False, why)
+                    mark(place, far + on + i, False, why)
 
         for number, line in f.lines:
             why = f"line {number}, {line}"
@@ -140,26 +179,36 @@ def check_places(functions):
                 if m[2] in at:
                     place, far = at[m[2]]
                     at[m[1]] = place, far + int(m[3]) if far is not None and m[3].isdigit() else None
-            elif m := re.match(rf"(?:{P} = load|store) ptr(?: {P})?, ptr ({P})", line):
-                if m[1] not in at or at[m[1]][1] is None:
-                    refuse(f"a pointer stands where the module has no place for one: {why}")
-                for i in range(8):
-                    mark(at[m[1]][0], at[m[1]][1] + i, True, why)
+            elif m := re.match(rf"(?:{P} = load|store) ptr(?: (?:{P}|{EMPTY}))?, ptr ({P})", line):
+                pointer(m[1], why)
+                if (m := re.match(rf"store ptr ({P})", line)) and m[1] in at:
+                    kept.setdefault(at[m[1]][0], why)
+            elif m := re.match(rf"{P} = load \{{ (i8|ptr), i64 \}}, ptr ({P})", line):
+                pointer(m[2], why) if m[1] == "ptr" else numbers(m[2], 1, why)
+                numbers(m[2], 8, why, on=8)
             elif m := re.match(rf"(?:{P} = load|store) i(\d+)(?: {V})?, ptr ({P})", line):
                 numbers(m[2], int(m[1]) // 8, why)
-            elif m := re.match(rf"call void @llvm\.mem(?:move|set)\S*\(ptr ({P}), \w+ ({V}), i64 ({V}),", line):
-                n = int(m[3]) if m[3].isdigit() else None
-                ends = [at[e] for e in (m[1], m[2]) if e in at and at[e][1] is not None]
+            elif m := re.match(rf"call void @llvm\.mem(?:move|set)\S*\(ptr ({P}), (\w+) ({V}), i64 ({V}),", line):
+                n = int(m[4]) if m[4].isdigit() else None
+                ends = [at[e] for e in (m[1], m[3]) if e in at and at[e][1] is not None]
                 if len(ends) == 2 and n is not None:
                     copies.append((*ends, n, why))
+                elif (m[2], m[3]) == ("i8", "0") and n and n % 8 == 0 and (ends and ends[0][1] % 8 == 0):
+                    pass  # 8 bytes 0, or those that a narrower pointer takes of them, are a null pointer, and a number too
                 else:
                     numbers(m[1], n, why)
-                    numbers(m[2], n, why)
-            elif m := re.match(rf"(?:{P} = )?call (?:void|{T}) ({NAME})\((.*)\)$", line):
+                    numbers(m[3], n, why)
+            elif m := re.match(rf"(?:{P} = )?call (?:void|{R}) ({NAME})\((.*)\)$", line):
                 for (kind, name), word in zip(by_name[m[1]].parameters, m[2].split(", ")):
                     end = at.get(word.split()[-1])
-                    if kind == "ptr" and end and end[1] is not None:
-                        copies.append((((m[1], name), 0), end, 2**64, why))
+                    if kind == "ptr":
+                        handed[m[1], name].append(end and end[0])
+                        if end and end[1] is not None:
+                            copies.append((((m[1], name), 0), end, 2**64, why))
+                        elif end:
+                            plain.setdefault(end[0], why)
+            elif (m := re.match(rf"ret ptr ({P})", line)) and m[1] in at:
+                kept.setdefault(at[m[1]][0], why)
     known = None
     while known != (known := sum(map(len, kinds.values()))):
         for a, b, n, why in copies:
@@ -170,6 +219,21 @@ def check_places(functions):
     for place, why in plain.items():
         if any(kinds[place].values()):
             refuse(f"a byte is part of a pointer in one line of the module and of a number in another: {why}")
+    for place, bytes_of in kinds.items():
+        if any(is_pointer and not all(bytes_of.get(far // 8 * 8 + i) for i in range(8)) for far, is_pointer in bytes_of.items()):
+            refuse(f"a part of a pointer is taken, or a pointer where none begins: {place[1]} of {place[0]}")
+    # a parameter is a place on the stack if each call gives it one; what is lent from outside is none
+    parameters = {(f.name, name): f for f in functions for kind, name in f.parameters if kind == "ptr"}
+    lent, more = set(), {p for p, f in parameters.items() if not f.internal or None in handed[p] or not handed[p]}
+    while more:
+        lent |= more
+        more = {p for p in parameters if p not in lent and lent.intersection(handed[p])}
+    for place, why in holding:
+        if place in lent:
+            refuse(f"a pointer stands where the module has no place for one: {why}")
+    for place, why in kept.items():
+        if any(kinds[place].values()):
+            refuse(f"the address of a place with a pointer is kept: {why}")
 
 
 def declared(path):
@@ -228,12 +292,14 @@ def check_handed_on(functions, header):
             own = lambda name: (f.name, name)
             through = []
             if m := re.match(rf"({P}) = getelementptr .*?ptr ({P}),", line):
-                through = [m[2]]
+                through = [] if number in f.lent else [m[2]]
                 pointers.same(own(m[1]), own(m[2]))
-            elif m := re.match(rf"({P}) = load ptr, ptr ({P}),", line):
+            elif m := re.match(rf"({P}) = load (?:ptr|\{{ ptr, i64 \}}), ptr ({P}),", line):
                 through = [m[2]]
                 pointers.same(own(m[1]), pointers.content(own(m[2])))
-            elif m := re.match(rf"store ptr ({P}), ptr ({P}),", line):
+            elif m := re.match(rf"({P}) = extractvalue \{{ ptr, i64 \}} ({P}), 0", line):
+                pointers.same(own(m[1]), own(m[2]))
+            elif m := re.match(rf"store ptr ({P}|{EMPTY}), ptr ({P}),", line):
                 through = [m[2]]
                 pointers.same(own(m[1]), pointers.content(own(m[2])))
             elif m := re.match(rf"call void @llvm\.memmove\S*\(ptr ({P}), ptr ({P}),", line):
@@ -241,13 +307,13 @@ def check_handed_on(functions, header):
                 pointers.same(pointers.content(own(m[1])), pointers.content(own(m[2])))
             elif m := re.match(rf"(?:{P} = load|store|call void @llvm\.memset).*?[ (]ptr ({P})", line):
                 through = [m[1]]
-            elif m := re.match(rf"(?:({P}) = )?call (void|{T}) ({NAME})\((.*)\)$", line):
+            elif m := re.match(rf"(?:({P}) = )?call (void|{R}) ({NAME})\((.*)\)$", line):
                 for (kind, name), word in zip(by_name[m[3]].parameters, m[4].split(", ")):
                     if kind == "ptr":
                         pointers.same((m[3], name), own(word.split()[-1]))
-                if m[2] == "ptr":
+                if m[2] in ("ptr", "{ ptr, i64 }"):
                     pointers.same((m[3], "its answer"), own(m[1]))
-            elif m := re.match(rf"ret ptr ({P})", line):
+            elif m := re.match(rf"ret (?:ptr|\{{ ptr, i64 \}}) ({P})", line):
                 pointers.same(own("its answer"), own(m[1]))
             looks += [(own(name), number, line) for name in through]
     lent = [(name, (f"@{f}", p[1])) for f in header for (_, name), p in zip(header[f], by_name[f"@{f}"].parameters)]
@@ -264,7 +330,7 @@ def check_handed_on(functions, header):
         for f in SWAPPED:
             for i, (kind, name) in enumerate(by_name[f].parameters):
                 p = (f, name)
-                if kind == "ptr" and (pointers.find(p) == one or (pointers.content(p) == one) != ((f, i) in PLACES[word])):
+                if kind == "ptr" and ((pointers.find(p) == one) != ((f, i) in PLACES[word]) or pointers.content(p) == one):
                     refuse(f"{f} isn't always given the {word}, or is given it as something else")
 
 
@@ -292,6 +358,16 @@ def swap(text, functions):
     for name in SWAPPED:
         out = out.replace(name, '@floatstore_swapped_' + name[8:-1])
     return re.sub(r"@floatstore_(?!swapped_)(\w+)", r"@floatstore_module_\1", out)
+
+
+def split_pairs(text):
+    """The module's text in which each pair is loaded as its two parts: how far the second is from the first LLVM would take from the target."""
+    parts = r"""  \1.a = load \3, ptr \4, align 8
+  \1.at = getelementptr i8, ptr \4, i64 8
+  \1.b = load i64, ptr \1.at, align 8
+  \1.ab = insertvalue \2 poison, \3 \1.a, 0
+  \1 = insertvalue \2 \1.ab, i64 \1.b, 1"""
+    return re.sub(rf"^  ({P}) = load (\{{ (i8|ptr), i64 \}}), ptr ({P}), align 8$", parts, text, flags=re.M)
 
 
 def widen(text, exported):
@@ -325,8 +401,10 @@ def main():
     swapped = swap(text, functions)
     check_handed_on(functions, header)
     simulated = "\n".join(text)
+    if bits == "32":
+        simulated, swapped = widen(split_pairs(simulated), exported), split_pairs(swapped)
     with open(os.path.join(out, "floatstore.ll"), "w") as f:
-        f.write(for_target(widen(simulated, exported) if bits == "32" else simulated))
+        f.write(for_target(simulated))
     with open(os.path.join(out, "floatstore_driver.ll"), "w") as f:
         f.write(for_target(swapped))
 

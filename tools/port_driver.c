@@ -6,28 +6,19 @@
 __asm__(".eabi_attribute 26, 0\n.eabi_attribute 28, 3");
 #endif
 
-/* A slice, as the module hands it over: 16 bytes on every target, the length at byte 8. */
-struct slice {
-    _Alignas(8) void *at;
-    _Alignas(8) uint64_t len;
-};
-_Static_assert(sizeof(struct slice) == 16 && offsetof(struct slice, len) == 8, "a slice as the module has it");
-
 /* What the module takes for the chip's bytes, and only hands on. `failed` stands elsewhere: so it is no part of a chip that a call doesn't change. */
 struct chip {
     void *own;
     uint32_t *failed;
 };
 
-static struct chip *chip_of(const struct slice *chip) { return chip->at; }
-
-/* In the place of chip::read. Once the chip has failed, the bytes are none of its own: what becomes of them reaches neither the chip nor the answer. */
-void floatstore_swapped_read(const struct slice *chip, uint64_t at, const struct slice *to) {
-    struct chip *c = chip_of(chip);
-    uint8_t *bytes = to->at;
-    if (!*c->failed && to->len != 0 && floatstore_chip_read(c->own, (uint32_t)at, bytes, (uint32_t)to->len) != 0) *c->failed = 1;
+/* The module hands over a slice as its pointer and its length. In the place of chip::read. Once the chip has failed, the bytes are none of its own: what
+ * becomes of them reaches neither the chip nor the answer. */
+void floatstore_swapped_read(struct chip *c, uint64_t chip_len, uint64_t at, uint8_t *bytes, uint64_t len) {
+    (void)chip_len;
+    if (!*c->failed && len != 0 && floatstore_chip_read(c->own, (uint32_t)at, bytes, (uint32_t)len) != 0) *c->failed = 1;
     if (*c->failed)
-        for (uint64_t i = 0; i < to->len; i++) bytes[i] = 0xFF;
+        for (uint64_t i = 0; i < len; i++) bytes[i] = 0xFF;
 }
 
 /* Whether the chip may still be asked. The module goes on as after a power failure where the fuse is 0. */
@@ -43,15 +34,14 @@ static void done(const struct chip *c, uint64_t *fuse, int answer) {
 }
 
 /* In the place of chip::write and chip::erase. The noise isn't looked at. */
-void floatstore_swapped_write(const struct slice *chip, uint64_t page, const struct slice *bytes, uint64_t *fuse, const struct slice *noise) {
-    struct chip *c = chip_of(chip);
-    (void)noise;
-    if (alive(c, fuse)) done(c, fuse, floatstore_chip_write(c->own, (uint32_t)page, bytes->at));
+#define NOISE const void *noise, uint64_t noise_len
+void floatstore_swapped_write(struct chip *c, uint64_t chip_len, uint64_t page, const uint8_t *bytes, uint64_t len, uint64_t *fuse, NOISE) {
+    (void)chip_len, (void)len, (void)noise, (void)noise_len;
+    if (alive(c, fuse)) done(c, fuse, floatstore_chip_write(c->own, (uint32_t)page, bytes));
 }
 
-void floatstore_swapped_erase(const struct slice *chip, uint64_t block, uint64_t *fuse, const struct slice *noise) {
-    struct chip *c = chip_of(chip);
-    (void)noise;
+void floatstore_swapped_erase(struct chip *c, uint64_t chip_len, uint64_t block, uint64_t *fuse, NOISE) {
+    (void)chip_len, (void)noise, (void)noise_len;
     if (alive(c, fuse)) done(c, fuse, floatstore_chip_erase(c->own, (uint32_t)block));
 }
 
