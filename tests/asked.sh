@@ -7,7 +7,7 @@ astray() {
   (
     cd "$1" || exit 1
     sed -n 's/^###* \(Document 0[0-9]\(, [a-z]* [0-9]*\)*\):.*/\1/p' docs/ASKED.md
-    grep -rnIiEo --exclude=asked.sh --exclude=ASKED.md \
+    grep -rnIiEo --exclude=asked.sh --exclude=ASKED.md --exclude-dir=out \
       'documents? 0[0-9](, (section|request) [0-9]+)?|sections? [0-9]+ of document 0[0-9]|requests? [0-9]+((, | and )[0-9]+)*|^\| 0[0-9], [0-9]+ \|' \
       crates docs include tools tests examples README.md
   ) | awk -F: '
@@ -29,9 +29,10 @@ astray() {
 lost=$(astray .)
 [ -z "$lost" ] || { echo "$lost"; exit 1; }
 
+. tests/crates.inc
 copy=$(mktemp -d) || exit 1
 trap 'rm -rf "$copy"' EXIT
-cp -r crates docs include tools tests examples README.md "$copy"/
+copy_crates "$copy" && cp -r docs include tools tests examples README.md "$copy"/ || exit 1
 n=0
 while IFS='>' read -r citation wanted; do
   n=$((n + 1))

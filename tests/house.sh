@@ -3,6 +3,7 @@
 # that isn't there. And what isn't so is found.
 cd "$(dirname "$0")/.." || exit 1
 python3 tools/house.py --check || exit 1
+. tests/crates.inc
 copy=$(mktemp -d) || exit 1
 trap 'rm -rf "$copy"' EXIT
 
@@ -10,7 +11,7 @@ n=0
 # plant WHAT WANTED: with the command WHAT done to a copy, the line WANTED is among what is found
 plant() {
   rm -rf "$copy/house"
-  mkdir "$copy/house" && cp -r crates docs include tools tests crates.txt "$copy/house"/ || exit 1
+  mkdir "$copy/house" && copy_crates "$copy/house" && cp -r docs include tools tests "$copy/house"/ || exit 1
   (cd "$copy/house" && sh -c "$1") || exit 1
   python3 "$copy/house/tools/house.py" --check | grep -qxF "$2" || { echo "not found: $1"; exit 1; }
   n=$((n + 1))
@@ -18,7 +19,7 @@ plant() {
 picture="docs/house.svg is not what tools/house.py draws: run it"
 plant 'mkdir -p crates/attic/src && echo "// empty" > crates/attic/src/lib.rt && echo "attic: page" >> crates.txt' "docs/HOUSE.md has no line for attic"
 plant 'echo "use keys::next;" >> crates/survey/src/lib.rt' "$picture"
-plant 'echo "use Rattle·survey.specs.Seen.{Sees}" >> crates/histories/specs/History.antt' "$picture"
+plant 'echo "use Rattle.survey.specs.Seen.{Sees}" >> crates/histories/specs/History.antt' "$picture"
 plant 'sed -i "s/page::is_sound(page)/true/" crates/record/src/lib.rt' "$picture"
 plant 'sed -i "s/chip::write(chip, p/chip::erase(chip, p/" crates/*/src/lib.rt' "$picture"
 plant 'sed -i "/^| .page. |/d" docs/HOUSE.md' "docs/HOUSE.md has no line for page"

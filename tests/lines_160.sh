@@ -23,13 +23,14 @@ faults() (
 lost=$(faults .)
 [ -z "$lost" ] || { echo "$lost"; exit 1; }
 
+. tests/crates.inc
 copy=$(mktemp -d) || exit 1
 trap 'rm -rf "$copy"' EXIT
 trap 'exit 130' INT TERM HUP
 n=0
 # plant WHAT WANTED: with the command WHAT done to a copy, the line WANTED is among what is found
 plant() {
-  rm -rf "$copy/here" && mkdir "$copy/here" && cp -r ./*.md VERSION docs include examples tools life crates tests "$copy/here"/ || exit 1
+  rm -rf "$copy/here" && mkdir "$copy/here" && copy_crates "$copy/here" && cp -r ./*.md VERSION docs include examples tools life tests "$copy/here"/ || exit 1
   (cd "$copy/here" && sh -c "$1") || exit 1
   faults "$copy/here" | grep -qxF "$2" || { echo "not found: $1"; exit 1; }
   n=$((n + 1))

@@ -2,7 +2,7 @@
 """One door (docs/DECISIONS.md): outside chip::read, chip::erase and chip::write the libraries hand the chip on, and do nothing else with it.
 
 A contract sees a function's first state and its last. What happens between them is watched here, by text: in the libraries, but for the bodies of those three
-functions, and without comments, `ghost use` and what stands between ⌜ and ⌝, every word `chip`, `fuse` and `noise` is one of these:
+functions, and without comments, `ghost use` and contracts, every word `chip`, `fuse` and `noise` is one of these:
 
   chip   a parameter `&[u8]` or `&mut [u8]`; a whole argument; `chip.len()`; the crate, in `chip::name(`
   fuse   a parameter `&u64` or `&mut u64`; a whole argument; `*fuse == 0` as a whole condition, or in brackets of its own
@@ -17,8 +17,25 @@ import sys
 ROOT = pathlib.Path(__file__).resolve().parent.parent
 TYPES = {"chip": ("&[u8]", "&mut[u8]"), "fuse": ("&u64", "&mutu64"), "noise": ("&[u8]", "&[u8;4096]")}
 DOORS = ["erase", "read", "write"]
-SKIPPED = r"\s+|//[^\n]*|/\*.*?\*/|⌜.*?⌝|\bghost\s+use\b[^;]*;"
+SKIPPED = r"\s+|//[^\n]*|/\*.*?\*/|\bghost\s+use\b[^;]*;"
+EXPORTED = ["#", "[", "unsafe", "(", "no_mangle", ")", "]"]  # no code: what it marks has a name for C
 TOKEN = re.compile(rf"(?P<skip>{SKIPPED})|\"(?:\\.|[^\"\\])*\"|'(?:\\.|[^'\\])'|\w+|<<=|>>=|::|->|=>|[=!<>]=|&&|\|\||\.\.=?|[-+*/%^&|]=|.", re.S)
+
+
+def without_contracts(found):
+    """The words and signs without each `requires` and `ensures`, its name if it has one, and what stands in its brackets."""
+    out, i = [], 0
+    while i < len(found):
+        start = i + 1 + (i + 1 < len(found) and re.match(r"\w", found[i + 1][0]) is not None)
+        if found[i][0] in ("requires", "ensures") and start < len(found) and found[start][0] == "{":
+            depth, i = 1, start + 1
+            while i < len(found) and depth:
+                depth += {"{": 1, "}": -1}.get(found[i][0], 0)
+                i += 1
+        else:
+            out.append(found[i])
+            i += 1
+    return out
 
 
 class Source:
@@ -27,7 +44,7 @@ class Source:
     def __init__(self, file):
         self.name, self.crate = file.relative_to(ROOT), file.relative_to(ROOT).parts[1]
         text = file.read_text(encoding="utf8")
-        found = [m for m in TOKEN.finditer(text) if not m["skip"]]
+        found = without_contracts([m for m in TOKEN.finditer(text) if not m["skip"]])
         self.t = [m[0] for m in found] + [""] * 6  # so that one may look ahead, and from the first word back
         self.lines = [text.count("\n", 0, m.start()) + 1 for m in found]
         self.close, self.around, stack = {}, {}, []  # the bracket that closes one; the innermost one that stands open
@@ -87,7 +104,7 @@ class Source:
             here = f"{self.name}:{self.lines[i] if i < len(self.lines) else 0}"
             if word in TYPES and not self.allowed(i):
                 yield f"{here}: `{' '.join(t[max(0, i - 3) : i + 5]).strip()}`: {word} is used in another way"
-            if word in ("unsafe", "static", "ref", "mod") or word == "*" and t[i + 1] in ("mut", "const") or word == "extern" and t[i + 2] != "fn":
+            if word in ("unsafe", "static", "ref", "mod") and t[i - 2 : i + 5] != EXPORTED or word == "*" and t[i + 1] in ("mut", "const") or word == "extern" and t[i + 2] != "fn":
                 yield f"{here}: `{word} {t[i + 1]}`: this check can't follow it"
             if word == "use" and "as" in t[i : t.index(";", i)]:
                 yield f"{here}: `use`: another name is given"
@@ -101,8 +118,8 @@ class Source:
 
 # the programs make up chips and fuses, and so may the crates that only they stand on: what crates.txt lists from this line on, and nothing above it uses
 parts = (ROOT / "crates.txt").read_text().split("# what the programs share")
-house, shared = ([line.split(":") for line in part.splitlines() if ":" in line] for part in parts)
-outside = {name for name, _ in shared}
+house, shared = ([line.split(":") for line in part.splitlines() if ":" in line.split("#")[0]] for part in parts)
+outside = {name.split()[0] for name, _ in shared}
 files = [f for f in sorted(ROOT.glob("crates/*/src/**/*.rt")) if f.relative_to(ROOT).parts[1] not in outside]
 sources = [Source(f) for f in files]
 functions = {}

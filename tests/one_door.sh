@@ -1,9 +1,10 @@
 #!/bin/sh
 # One door (tests/one_door.py): the sources as they are pass, each of the planted programs is found at its line, and a harmless sister is not.
 cd "$(dirname "$0")/.." || exit 1
+. tests/crates.inc
 copy=$(mktemp -d) || exit 1
 trap 'rm -rf "$copy"' EXIT
-cp -r crates tests crates.txt "$copy"/
+copy_crates "$copy" && cp -r tests "$copy" || exit 1
 mkdir -p "$copy/crates/planted/src"
 planted=$copy/crates/planted/src/lib.rt
 
@@ -14,10 +15,13 @@ pub fn wrong(chip: &mut [u8], b: usize, fuse: &mut u64, noise: &[u8; 4096], work
     $1
 }
 use chip::look_at;
+#[unsafe(no_mangle)]
 fn spoil(x: &mut [u8]) {}
 fn wear(c: &mut [u8], n: &mut u64) {}
 fn look(chip: &[u8], fuse: &u64, noise: &[u8]) -> usize
-    requires { ⌜ chip[0] = *fuse ⌝ }
+    requires low { slice_index chip.now 0 ≡ fuse.now }
+    requires { given {n = 0} (length noise.now) }
+    ensures { result ≡ length chip.now }
 {
     // chip[0] = 0;
     if *fuse == 0 {
@@ -77,6 +81,7 @@ if noise[0] == 1 { return 0; }
 let x = noise.len();
 struct Kept { chip: &mut [u8] }
 fn lend(fuse: u64) {}
+fn peek(chip: &[u8]) -> u8 ensures right { result ≡ first {n = 0} chip.now } { chip[0] }
 unsafe { work[0] = 1; }
 let x = work as *mut u32;
 use chip as other;

@@ -4,6 +4,7 @@
 cd "$(dirname "$0")/.." || exit 1
 top=$PWD
 . tests/port/boards.inc
+. tests/crates.inc
 need_boards || exit 1
 tools/port_module.sh || exit 1
 room=$(mktemp -d) || exit 1
@@ -13,7 +14,7 @@ die() { echo "$*"; exit 1; }
 
 # a copy in which faults are planted; `fresh` makes it anew
 copy=$room/copy
-mkdir -p "$copy/target/port" && cp -r VERSION crates crates.txt tests "$copy" && cp -r target/staticlib "$copy/target" || exit 1
+mkdir -p "$copy/target/port" && copy_crates "$copy" && cp -r VERSION tests "$copy" && cp -r target/staticlib "$copy/target" || exit 1
 fresh() {
   rm -rf "$copy/tools" "$copy/include" && cp -r tools include "$copy" && cp target/port/floatstore.ll* "$copy/target/port/" || exit 1
 }

@@ -31,7 +31,9 @@ done
 # twice, by different hands: here, and in a copy elsewhere, behind a link, where the tool is compiled anew
 archive=$(tools/release "$room/one") || exit 1
 mkdir -p "$room/other/target" && cp -r target/staticlib "$room/other/target" || exit 1
-for part in ./*.md VERSION crates crates.txt docs examples include tools man; do [ ! -e "$part" ] || cp -r "$part" "$room/other" || exit 1; done
+. tests/crates.inc
+copy_crates "$room/other" || exit 1
+for part in ./*.md VERSION docs examples include tools man; do [ ! -e "$part" ] || cp -r "$part" "$room/other" || exit 1; done
 ln -s "$room/other" "$room/link"
 when=$(tar --full-time -tvzf "$archive" | sed -n '1s/.* \([0-9-]* [0-9:]*\) [^ ]*$/\1/p')
 again=$(cd "$room" && umask 077 && SOURCE_DATE_EPOCH=$(date -d "$when" +%s) TZ=Asia/Tokyo LC_ALL=C.UTF-8 link/tools/release "$room/two") || exit 1

@@ -5,7 +5,7 @@
   tools/house.py --ways     prints both ways, function by function, with what each function ensures
   tools/house.py --check    prints what is no longer so: of the picture, and of what docs/HOUSE.md names
 
-A crate is a room. It knows a crate that its code names (`name::`, `use name`) or whose definitions or laws it cites (`use Rattle·name.` in src/, specs/ and
+A crate is a room. It knows a crate that its code names (`name::`, `use name`) or whose definitions or laws it cites (`use Rattle.name.` in src/, specs/ and
 proofs/), and stands above all that it knows. A line that others imply is left out, but none of those that a way takes. The ways are found by text: each
 function that is called, from floatstore_put and from floatstore_start on. Lines to one room from far above share a shaft.
 """
@@ -28,37 +28,56 @@ def crates():
     """The lines of crates.txt: a crate, and the crates that it stands on."""
     lines = (ROOT / "crates.txt").read_text(encoding="utf8").splitlines()
     pairs = [line.split("#")[0].split(":") for line in lines if ":" in line.split("#")[0]]
-    return {name.strip(): below.split() for name, below in pairs}
+    return {name.split()[0]: below.split() for name, below in pairs}
 
 
 def sources(crate, *parts):
     return [f.read_text(encoding="utf8") for part in parts for f in sorted((ROOT / "crates" / crate / part).rglob("*")) if f.suffix in (".rt", ".antt")]
 
 
-def bare(text):
-    """Code without comments, strings, `ghost use` and contracts."""
+def plain(text):
+    """Code without comments, strings and `ghost use`."""
     text = re.sub(r"//[^\n]*|/\*.*?\*/|b?\"(?:\\.|[^\"\\])*\"|'(?:\\.|[^'\\])'", " ", text, flags=re.S)
-    text = re.sub(r"⌜.*?⌝|\bghost\s+use\b[^;]*;", " ", text, flags=re.S)
-    return re.sub(r"\b(?:requires|ensures)\b[^{]*\{[^}]*\}", " ", text)
+    return re.sub(r"\bghost\s+use\b[^;]*;", " ", text)
+
+
+def body(text, start):
+    """Where the bracket that stands at start ends."""
+    depth = 0
+    for end in range(start, len(text)):
+        depth += {"{": 1, "}": -1}.get(text[end], 0)
+        if depth == 0:
+            return end
+    return len(text)
+
+
+def bare(text):
+    """Code that is plain without its contracts, and these: pairs of a place in it and a clause that stood there."""
+    out, clauses, at = "", [], 0
+    for m in re.finditer(r"\b(requires|ensures)\b(?:\s+\w+)?\s*\{", text):
+        out += text[at : m.start()]
+        at = body(text, m.end() - 1) + 1
+        clauses.append((len(out), m[1], text[m.end() : at - 1]))
+    return out + text[at:], clauses
 
 
 def shared():
     """What only the programs stand on: the crates below that line of crates.txt."""
     lines = (ROOT / "crates.txt").read_text(encoding="utf8").partition("# what the programs share\n")[2].splitlines()
-    return {line.split(":")[0] for line in lines if ":" in line}
+    return {line.split(":")[0].split()[0] for line in lines if ":" in line.split("#")[0]}
 
 
 class Crate:
     def __init__(self, name, known):
         self.name = name
         written = "\n".join(sources(name, "src"))
-        code = bare(written)
+        code, clauses = bare(plain(written))
         if not written:
             sys.exit(f"crates.txt names {name}, and crates/{name}/src is empty")
         # a program, or what only programs share: nothing of the store stands on it
         self.program = (ROOT / "crates" / name / "src" / "main.rt").exists() or name in shared()
         self.theory = "is theory" in "".join(re.findall(r"^//[^\n]*\n", written, re.M))
-        cited = re.findall(r"\buse\s+Rattle·(\w+)", "\n".join(sources(name, "src", "specs", "proofs")))
+        cited = re.findall(r"\buse\s+Rattle\.(\w+)", "\n".join(sources(name, "src", "specs", "proofs")))
         named = re.findall(r"(?<![\w:])(\w+)\s*::", code) + re.findall(r"\buse\s+(\w+)", code)
         self.knows = {c for c in named + cited if c in known and c != name}
         # what a `use` brings in: a name, and the crate that it is of
@@ -67,16 +86,10 @@ class Crate:
             self.brought.update({word: crate for word in re.findall(r"\w+", names)})
         self.bodies, self.ensures = {}, {}
         for m in re.finditer(r"\bfn\s+(\w+)\s*(?:<[^>]*>)?\s*\(", code):
-            start, depth, end = code.find("{", m.end()), 0, m.end()
-            for end in range(start, len(code)):
-                depth += {"{": 1, "}": -1}.get(code[end], 0)
-                if depth == 0:
-                    break
-            self.bodies[m[1]] = code[start:end]
-        for m in re.finditer(r"\bfn\s+(\w+)[^⌜]*?\n\{|\bfn\s+(\w+).*?\n\{", written, re.S):
-            clauses = " | ".join(re.findall(r"\bensures\b[^⌜]*⌜(.*?)⌝", m[0], re.S))
-            clauses = re.sub(r"\(now \((\w+) \.entry\)\)", r"\1", re.sub(r"\(now \((\w+) \.exit\)\)", r"\1′", clauses))
-            self.ensures[m[1] or m[2]] = " ".join(clauses.split())
+            start = code.find("{", m.end())
+            self.bodies[m[1]] = code[start : body(code, start)]
+            ensured = " | ".join(text for at, word, text in clauses if word == "ensures" and m.end() <= at <= start)
+            self.ensures[m[1]] = " ".join(re.sub(r"\b(\w+)\.(?:old|now)\b", r"\1", re.sub(r"\b(\w+)\.new\b", r"\1′", ensured)).split())
 
 
 def calls(house, crate, function):
@@ -397,7 +410,7 @@ def astray(house, picture):
             yield f"docs/HOUSE.md names {name}, which stands nowhere in crates/"
     for name in sorted(set(re.findall(r"[\w./-]+\.(?:antt|md|sh|py|c|h|svg)\b|\bcrates/\w+/\w+/", page))):
         # a name without a folder is that of a file of some crate, or of this folder
-        if not (ROOT / name).exists() and ("/" in name or not ((ROOT / "docs" / name).exists() or any((ROOT / "crates").rglob(name)))):
+        if not (ROOT / name).exists() and ("/" in name or not ((ROOT / "docs" / name).exists() or any((ROOT / "crates").glob(f"*/[!o]*/**/{name}")))):
             yield f"docs/HOUSE.md names the file {name}, which isn't there"
 
 
