@@ -8,8 +8,9 @@ tools/need.sh clang clang && tools/library.sh || exit 1
 room=$(mktemp -d) || exit 1
 trap 'rm -rf "$room"' EXIT
 trap 'exit 130' INT TERM HUP
-mkdir -p "$room/crates/measured/src" "$room/target" target/c && cp -r crates/page "$room/crates" && cp tools/bench_sound.rattle "$room/crates/measured/src/lib.rt" || exit 1
-[ ! -d target/rlib ] || cp -r target/rlib target/stamp "$room/target" || exit 1
-printf 'page:\nmeasured: page\n' >"$room/crates.txt"
-(cd "$room" && rt staticlib measured) >"$room/said" 2>&1 || { cat "$room/said" >&2; exit 1; }
-clang -std=c11 -O2 -Wall -Wextra -Werror -o target/c/bench_sound tools/bench_sound.c "$room/target/staticlib/libmeasured.a" && target/c/bench_sound
+mkdir -p "$room/crates/measured/src" "$room/.git" target/c && cp tools/bench_sound.rattle "$room/crates/measured/src/lib.rt" || exit 1
+for part in src specs proofs; do mkdir -p "$room/crates/page" && cp -r "crates/page/$part" "$room/crates/page" || exit 1; done
+printf 'page:\nmeasured staticlib: page\n' >"$room/crates.txt"
+# as tools/library.sh has it
+(cd "$room/crates/measured" && rt lib --cpu x86-64) >"$room/said" 2>&1 || { cat "$room/said" >&2; exit 1; }
+clang -std=c11 -O2 -Wall -Wextra -Werror -o target/c/bench_sound tools/bench_sound.c "$room/crates/measured/out/libmeasured.a" && target/c/bench_sound
