@@ -12,7 +12,7 @@ names='' wanted=0 sisters=0
 for folder in "$room"/crates/*/must-pass; do
   mkdir "${folder%/must-pass}/must-fail"
   cat "$folder"/*.edit >"${folder%/must-pass}/must-fail/sisters.edit"
-  names="$names $(basename "${folder%/must-pass}")" wanted=$((wanted + 1)) sisters=$((sisters + $(cat "$folder"/*.edit | grep -c '^new:')))
+  names="$names $(basename "${folder%/must-pass}")" wanted=$((wanted + 1)) sisters=$((sisters + $(ls "$folder"/*.edit | wc -l)))
 done
 # to the checker the sisters are one wrong program, and it must complain that it is not refused
 # shellcheck disable=SC2086

@@ -45,6 +45,7 @@ pub fn beginning_at(chip: &[u8], p: usize) -> [u8; 32]
 }
 
 // Whether page p is blank, so that it may be written.
+#[tactic(auto, unfolding(crate::specs::Chip::blank_at))]
 pub fn blank_at(chip: &[u8], p: usize) -> bool
     requires { 256 * p + 256 ≤ length chip.now }
     ensures { result ≡ blank_at chip.now p }

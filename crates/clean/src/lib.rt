@@ -43,6 +43,7 @@ pub enum Turn {
 }
 
 // The page of a live value, whose entry is j, is made anew at place k of block x, and its entry is that page.
+#[tactic(auto, using(crate::proofs::Carries::carry_full))]
 pub fn carry(
     chip: &mut [u8],
     index: &mut [u32],

@@ -160,6 +160,7 @@ fn is_counted(page: &[u8]) -> bool
 }
 
 // Whether a page is sound in its form, which byte 0 says.
+#[tactic(auto, using(crate::proofs::Forms::sound_one_lem, crate::proofs::Forms::sound_two, crate::proofs::Forms::sound_neither))]
 pub fn is_sound(page: &[u8]) -> bool
     requires { length page.now ≡ 256 }
     ensures { result ≡ sound page.now }

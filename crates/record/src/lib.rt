@@ -41,6 +41,7 @@ fn is_note(kind: u8, klen: u8, vlen: u8) -> bool
 }
 
 // What kind of thing a page says. Four bytes are looked at first: of a blank page no more.
+#[tactic(auto, using(crate::proofs::KindTests::test_neither, crate::proofs::KindTests::test_unsound, crate::proofs::KindTests::test_value, crate::proofs::KindTests::test_note))]
 pub fn kind_of(page: &[u8]) -> Kind
     requires { length page.now ≡ 256 }
     ensures { result ≡ kind_of (rec_of page.now) }

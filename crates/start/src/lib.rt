@@ -67,6 +67,7 @@ fn replay(chip: &[u8], index: &mut [u32], b: usize, h: usize, begin: usize) -> u
 }
 
 // How many blocks after block t block x comes, in a ring of b.
+#[tactic(auto, using(crate::proofs::Cursor::after_below, crate::proofs::Cursor::after_above))]
 fn blocks_after(t: u32, b: u32, x: u32) -> u32
     requires { (t < b) × (b ≤ most_blocks) }
     ensures right { result ≡ blocks_after t b x }
@@ -84,6 +85,7 @@ fn log_place(t: u32, b: u32, q: u32) -> u32
 }
 
 // The lesser of two numbers.
+#[tactic(auto, using(crate::proofs::Cursor::lesser_first, crate::proofs::Cursor::lesser_second))]
 fn lesser(x: u32, y: u32) -> u32
     ensures { result ≡ lesser x y }
 {

@@ -4,12 +4,9 @@ use native.Mathlib.Omega.{arith}
 use borrow.Author.Tests.{not-true, not-false}
 use lib.ListN.{length}
 use Rattle.record.proofs.Copy.{anew_length}
-use Rattle.clean.proofs.Carries.{carry_full, carry_dirty, carry_dark, carry_on}
+use Rattle.clean.proofs.Carries.{carry_dirty, carry_dark, carry_on}
 use borrow.Author.Rules.{rules}
 use Rattle.clean.proofs.carry.Goals as goal
-
-pub returns-then-k-ge-PLACES : goal.returns-then-k-ge-PLACES
-returns-then-k-ge-PLACES c = record { right = carry_full _ _ _ _ _ _ _ _ (omega arith); few = search rules }
 
 pub returns-then-not-blank_at : goal.returns-then-not-blank_at
 returns-then-not-blank_at c = record { right = carry_dirty _ _ _ _ _ _ _ _ (sym c.blank_at.ensures ∙ not-true _ c.if-not-blank_at.true-raw); few = search rules }

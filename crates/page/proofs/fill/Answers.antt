@@ -1,6 +1,6 @@
 -- `page::fill` meets its contract. Assumes nothing.
-use mathlib.Core.Path.{refl, ap, ◌∙◌}
-use Prim.Native.Nat.{ℕ, ◌+◌, ◌-◌, ◌*◌, ◌/◌, ◌≤◌}
+use mathlib.Core.Path.{refl}
+use Prim.Native.Nat.{◌+◌, ◌*◌, ◌/◌, ◌≤◌}
 use native.Mathlib.Omega.{arith}
 use Rattle.page.specs.Page.{ones_to}
 use Rattle.page.proofs.Ones.{ones_most}
@@ -12,13 +12,11 @@ overflow_sub-zeros c =
     let most : ones_to c.args.page.now 254 ≤ 8 * 254 = ones_most c.args.page.now (λ i. omega (arith, c.slice_known-1.given i)) 254 in
     omega (
       arith,
-      c.ones_to-zeros.ensures,
       fill_ones c.args.page.now c.requires.0 c.args.used c.requires.1 c.requires.2 (8 * ((c.args.used + 7) / 8)) (omega arith),
       fill_ones c.args.page.now c.requires.0 c.args.used c.requires.1 c.requires.2 254 c.requires.1,
     )
 
 pub returns : goal.returns
 returns c =
-    fill_makes c.args.page.now c.requires.0 _ _ _
-    (ap (λ (k : ℕ). 2032 - k) (c.ones_to-zeros.ensures ∙ fill_ones c.args.page.now c.requires.0 c.args.used c.requires.1 c.requires.2 (8 * ((c.args.used + 7) / 8)) (omega arith)))
-    refl refl
+    let e = fill_ones c.args.page.now c.requires.0 c.args.used c.requires.1 c.requires.2 (8 * ((c.args.used + 7) / 8)) (omega arith) in
+    fill_makes c.args.page.now c.requires.0 _ _ _ (omega arith) refl refl

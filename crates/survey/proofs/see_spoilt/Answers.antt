@@ -8,10 +8,10 @@ pub overflow_add-result : goal.overflow_add-result
 overflow_add-result c = omega (arith, c.requires.0.is)
 
 pub returns-then-s-eq0 : goal.returns-then-s-eq0
-returns-then-s-eq0 c = see_first _ _ c.requires.0 _ _ _ (omega (arith, c.if-s-eq0.true)) refl refl
+returns-then-s-eq0 c = see_first _ _ c.requires.0 _ _ _ (omega arith) refl refl
 
 pub overflow_add-result-2 : goal.overflow_add-result-2
 overflow_add-result-2 c = omega (arith, c.requires.0.is)
 
 pub returns : goal.returns
-returns c = see_later _ _ c.requires.0 _ (omega (arith, c.if-s-eq0.false))
+returns c = see_later _ _ c.requires.0 _ (omega arith)
