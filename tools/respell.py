@@ -2,8 +2,8 @@
 """Brings the names of this repository's own definitions and lemmas to the spelling of the kit: words in snake case. Run once, at the top of the
 repository, after the kit's own script (docs/PORT.md). Names of types and of src/, strings, and what a proof file of a function declares stay.
 
-A lemma that would have the name of a definition gets `_lem` after it. A name is respelled so: a capital inside it begins a word (keyAt, key_at), a dash before a letter or a digit is an underscore (all-at, all_at); a dash
-before an operator stays (alter-<). Two names that fall together are refused.
+A lemma that would have the name of a definition gets `_lem` after it. A name is respelled so: a capital inside it begins a word (keyAt, key_at), a dash
+before a letter or a digit is an underscore (all-at, all_at); a dash before an operator stays (alter-<). Two names that fall together are refused.
 
 With --crates, run after it: gives the crates in CRATES another name, since the kit has libraries of theirs."""
 import glob
