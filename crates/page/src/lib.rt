@@ -11,6 +11,9 @@ ghost use Rattle.page.specs.Page.{Bare, blank, blank_run, flips, flipped, ones_t
 ghost use Rattle.page.specs.Lanes.{ones_at, ones_lane};
 ghost use Rattle.page.specs.Look.{Apart, spoilt_at, look_of};
 
+// A page.
+pub type Page = [u8; 256];
+
 // Whether y is 255 minus x.
 fn flips(x: u8, y: u8) -> bool
     ensures { result ≡ flips x y }
@@ -19,8 +22,8 @@ fn flips(x: u8, y: u8) -> bool
 }
 
 // Whether the 64 bytes from index `from` on all read 0xFF.
-fn blank_run(page: &[u8], from: usize) -> bool
-    requires { from + 64 ≤ length page.now }
+fn blank_run(page: &Page, from: usize) -> bool
+    requires { from + 64 ≤ 256 }
     ensures { result ≡ blank_run page.now from }
 {
     let mut ok = true;
@@ -33,8 +36,7 @@ fn blank_run(page: &[u8], from: usize) -> bool
 }
 
 // Whether all 256 bytes read 0xFF. After a run that has another byte none is looked at.
-pub fn is_blank(page: &[u8]) -> bool
-    requires { length page.now ≡ 256 }
+pub fn is_blank(page: &Page) -> bool
     ensures { result ≡ blank page.now }
 {
     let mut run = 0;
@@ -48,8 +50,7 @@ pub fn is_blank(page: &[u8]) -> bool
 }
 
 // Whether the second half of the page is the flipped copy of the first.
-fn is_flipped(page: &[u8]) -> bool
-    requires { length page.now ≡ 256 }
+fn is_flipped(page: &Page) -> bool
     ensures { result ≡ flipped page.now }
 {
     let mut ok = true;
@@ -69,8 +70,8 @@ fn four(a: u8, b: u8, c: u8, d: u8) -> u64
 }
 
 // Eight bytes as one number. (The compiler makes one load of it.)
-fn eight_at(page: &[u8], a: usize) -> u64
-    requires { a + 8 ≤ length page.now }
+fn eight_at(page: &Page, a: usize) -> u64
+    requires { a + 8 ≤ 256 }
     ensures { ones result ≡ ones_at page.now a }
 {
     let low = four(page[a], page[a + 1], page[a + 2], page[a + 3]);
@@ -112,8 +113,8 @@ fn ones_of_eight(a: u64, b: u64, c: u64, d: u64, e: u64, f: u64, g: u64, h: u64)
 }
 
 // The 1 bits of a lane: eight numbers of eight bytes, from byte a on every 32 bytes.
-fn lane(page: &[u8], a: usize) -> u32
-    requires { a + 232 ≤ length page.now }
+fn lane(page: &Page, a: usize) -> u32
+    requires { a + 232 ≤ 256 }
     ensures { (result ≡ ones_lane page.now a) × (result ≤ 512) }
 {
     ones_of_eight(
@@ -129,8 +130,7 @@ fn lane(page: &[u8], a: usize) -> u32
 }
 
 // How many bits of a page are 1: four lanes, side by side, so that the compiler vectorises the loop.
-fn one_bits(page: &[u8]) -> u32
-    requires { length page.now ≡ 256 }
+fn one_bits(page: &Page) -> u32
     ensures { (result ≡ ones_to page.now 256) × (result ≤ 2048) }
 {
     let mut n = 0;
@@ -151,8 +151,7 @@ fn counts(high: u8, low: u8, n: u32) -> bool
 }
 
 // The same of a page.
-fn is_counted(page: &[u8]) -> bool
-    requires { length page.now ≡ 256 }
+fn is_counted(page: &Page) -> bool
     ensures { result ≡ counted page.now }
 {
     let n = one_bits(page);
@@ -161,8 +160,7 @@ fn is_counted(page: &[u8]) -> bool
 
 // Whether a page is sound in its form, which byte 0 says.
 #[tactic(auto, using(crate::proofs::Forms::sound_one_lem, crate::proofs::Forms::sound_two, crate::proofs::Forms::sound_neither))]
-pub fn is_sound(page: &[u8]) -> bool
-    requires { length page.now ≡ 256 }
+pub fn is_sound(page: &Page) -> bool
     ensures { result ≡ sound page.now }
 {
     if page[0] == 1 {
@@ -175,8 +173,7 @@ pub fn is_sound(page: &[u8]) -> bool
 }
 
 // The lowest byte of the first half whose copy in the second is another; 128 if there is none.
-fn first_apart(page: &[u8]) -> usize
-    requires { length page.now ≡ 256 }
+fn first_apart(page: &Page) -> usize
     ensures { Apart page.now result }
 {
     let mut k = 0;
@@ -198,8 +195,7 @@ pub enum Look {
 }
 
 // Which byte is told of a spoilt page.
-fn spoilt_at(page: &[u8]) -> usize
-    requires { length page.now ≡ 256 }
+fn spoilt_at(page: &Page) -> usize
     ensures { result ≡ spoilt_at page.now }
 {
     if page[0] == 2 {
@@ -213,8 +209,7 @@ fn spoilt_at(page: &[u8]) -> usize
 }
 
 // What a page is.
-pub fn look_at(page: &[u8]) -> Look
-    requires { length page.now ≡ 256 }
+pub fn look_at(page: &Page) -> Look
     ensures { result ≡ look_of page.now }
 {
     if is_blank(page) {
@@ -227,8 +222,8 @@ pub fn look_at(page: &[u8]) -> Look
 }
 
 // How many bits of the first n numbers of eight bytes are 1.
-fn ones_to(page: &[u8], n: usize) -> u32
-    requires { (8 * n ≤ length page.now) × (n ≤ 32) }
+fn ones_to(page: &Page, n: usize) -> u32
+    requires { n ≤ 32 }
     ensures { result ≡ ones_to page.now (8 * n) }
 {
     let mut ones = 0;
@@ -242,8 +237,8 @@ fn ones_to(page: &[u8], n: usize) -> u32
 
 // Makes the buffer the page of the payload that stands in its first 254 bytes: behind it comes the number of its 0 bits. From byte `used` on there are zeros,
 // whose bits need not be counted.
-pub fn fill(page: &mut [u8], used: usize)
-    requires { (length page.old ≡ 256) × (used ≤ 254) × Bare page.old used }
+pub fn fill(page: &mut Page, used: usize)
+    requires { (used ≤ 254) × Bare page.old used }
     ensures { page.new ≡ count_form (take 254 page.old) }
 {
     let zeros = 2032 - ones_to(page, (used + 7) / 8);

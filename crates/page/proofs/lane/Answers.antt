@@ -8,4 +8,4 @@ returns c =
     let all =
     lane_is c.args.page.now c.args.a _ _ _ _ _ _ _ _ _ c.eight_at.ensures c.eight_at-2.ensures c.eight_at-3.ensures c.eight_at-4.ensures
     c.eight_at-5.ensures c.eight_at-6.ensures c.eight_at-7.ensures c.eight_at-8.ensures c.ones_of_eight.ensures in
-    (all, omega (arith, all, lane_most c.args.page.now (λ i. omega (arith, c.shared_slice_known-1.given i)) c.args.a))
+    (all, omega (arith, all, lane_most c.args.page.now (λ i. omega (arith, c.fits-page i)) c.args.a))

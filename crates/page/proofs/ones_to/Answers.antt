@@ -11,7 +11,7 @@ loop-i-init c = (omega arith, ones_none _)
 
 pub overflow_add-ones : goal.overflow_add-ones
 overflow_add-ones c =
-    let most : ones_to c.args.page.now (8 * c.loop-i.i + 8) ≤ 8 * (8 * c.loop-i.i + 8) = ones_most c.args.page.now (λ k. omega (arith, c.shared_slice_known-1.given k)) (8 * c.loop-i.i + 8) in
+    let most : ones_to c.args.page.now (8 * c.loop-i.i + 8) ≤ 8 * (8 * c.loop-i.i + 8) = ones_most c.args.page.now (λ k. omega (arith, c.fits-page k)) (8 * c.loop-i.i + 8) in
     omega (arith, c.eight_at.ensures, ones_up c.args.page.now (8 * c.loop-i.i))
 
 pub loop-i-preserved : goal.loop-i-preserved
