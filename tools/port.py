@@ -87,10 +87,10 @@ OUTSIDE = [
 ]
 inside = re.compile("|".join(f"(?:{f})" for f in INSIDE))
 outside = re.compile("|".join(f"(?:{f})" for f in OUTSIDE))
-SWAPPED = {'@"chip::read"': "ptr i64 i64 ptr i64", '@"chip::write"': "ptr i64 i64 ptr i64 ptr ptr i64", '@"chip::erase"': "ptr i64 i64 ptr ptr i64"}
+SWAPPED = {'@"chip::read"': "ptr i64 i64 ptr i64", '@"chip::write"': "ptr i64 i64 ptr ptr ptr", '@"chip::erase"': "ptr i64 i64 ptr ptr"}
 PLACES = {  # which of their parameters are the chip, and the noise
     "chip": [('@"chip::read"', 0), ('@"chip::write"', 0), ('@"chip::erase"', 0)],
-    "noise": [('@"chip::write"', 6), ('@"chip::erase"', 4)],
+    "noise": [('@"chip::write"', 5), ('@"chip::erase"', 4)],
 }
 
 

@@ -34,14 +34,13 @@ static void done(const struct chip *c, uint64_t *fuse, int answer) {
 }
 
 /* In the place of chip::write and chip::erase. The noise isn't looked at. */
-#define NOISE const void *noise, uint64_t noise_len
-void floatstore_swapped_write(struct chip *c, uint64_t chip_len, uint64_t page, const uint8_t *bytes, uint64_t len, uint64_t *fuse, NOISE) {
-    (void)chip_len, (void)len, (void)noise, (void)noise_len;
+void floatstore_swapped_write(struct chip *c, uint64_t chip_len, uint64_t page, const uint8_t *bytes, uint64_t *fuse, const void *noise) {
+    (void)chip_len, (void)noise;
     if (alive(c, fuse)) done(c, fuse, floatstore_chip_write(c->own, (uint32_t)page, bytes));
 }
 
-void floatstore_swapped_erase(struct chip *c, uint64_t chip_len, uint64_t block, uint64_t *fuse, NOISE) {
-    (void)chip_len, (void)noise, (void)noise_len;
+void floatstore_swapped_erase(struct chip *c, uint64_t chip_len, uint64_t block, uint64_t *fuse, const void *noise) {
+    (void)chip_len, (void)noise;
     if (alive(c, fuse)) done(c, fuse, floatstore_chip_erase(c->own, (uint32_t)block));
 }
 

@@ -10,7 +10,7 @@ use lib.Seq.{length-take-le}
 use lib.Bits.{bit_or, bit_and}
 use borrow.Rule.Slice.PartMut.{put_mid, mid_of}
 use Rattle.page.specs.Page.{byte, Bytes, each, ors, ands}
-use Rattle.page.proofs.Cut.{length_each, and_ones, ands_blank}
+use Rattle.page.proofs.Cut.{length_each, each_second, ands_blank}
 use Rattle.chip.specs.Chip.{Power, goes, stays, power, page_at, block_at, blank_at, news, splice, erased, written}
 use Rattle.chip.proofs.Splice.{part_back, part_out}
 
@@ -27,36 +27,26 @@ power_stays (suc (suc f)) h = refl
 pub length_part : (a k : ℕ) (c : List ℕ) → a + k ≤ length c → length (take k (drop a c)) ≡ k
 length_part a k c h = length-take-le k (drop a c) (simp length-drop (omega arith))
 
--- ones, with the noise laid over them, are the noise: what stood there before is gone
-ones_laid : (zs ys : List ℕ) → length zs ≡ length ys → Bytes ys → ands (replicate (length zs) 255) ys ≡ news zs ys
-unfolding each
-ones_laid [] ys e small = refl
-ones_laid (z ∷ zs) [] e small = absurd (omega (arith, e))
-ones_laid (z ∷ zs) (y ∷ ys) e small =
-    ap (λ (x : ℕ). x ∷ ands (replicate (length zs) 255) ys) (and_ones y (small 0)) ∙ ap (λ (l : List ℕ). y ∷ l) (ones_laid zs ys (omega (arith, e)) (λ i. small (suc i)))
-
--- ---- the block, lent as a part, was cleared to xs
-module _ (f b : ℕ) (noise c xs : List ℕ) (h : 4096 * b + 4096 ≤ length c) (x : xs ≡ replicate (length (mid_of (4096 * b) (4096 * b + 4096 - 4096 * b) c)) 255) where
-  cleared : xs ≡ replicate (length (take 4096 (drop (4096 * b) c))) 255
-  cleared = x ∙ ap (λ (l : List ℕ). replicate (length l) 255) (part_out (4096 * b) 4096 c)
-
-  pub erase_whole : 1 < f → put_mid (4096 * b) (4096 * b + 4096 - 4096 * b) c xs ≡ erased (power f) noise b c
+-- ---- the block, lent as a part, became xs
+module _ (f b : ℕ) (noise c xs : List ℕ) (h : 4096 * b + 4096 ≤ length c) where
+  -- all ones
+  pub erase_whole : xs ≡ replicate (length (mid_of (4096 * b) (4096 * b + 4096 - 4096 * b) c)) 255 → 1 < f
+      → put_mid (4096 * b) (4096 * b + 4096 - 4096 * b) c xs ≡ erased (power f) noise b c
   unfolding erased
-  erase_whole e =
-      let x₂ : xs ≡ replicate 4096 255 = cleared ∙ ap (λ (k : ℕ). replicate k 255) (length_part (4096 * b) 4096 c h) in
+  erase_whole x e =
+      let n : length (mid_of (4096 * b) (4096 * b + 4096 - 4096 * b) c) ≡ 4096 = ap length (part_out (4096 * b) 4096 c) ∙ length_part (4096 * b) 4096 c h in
+      let x₂ : xs ≡ replicate 4096 255 = x ∙ ap (λ (k : ℕ). replicate k 255) n in
       rw (power_stays f e)
       (part_back (4096 * b) 4096 c xs (ap length x₂ ∙ length-replicate {A = ℕ} 4096 255) ∙ ap (λ (l : List ℕ). splice c (4096 * b) l) x₂)
 
-  -- and then the noise was laid over it, which gave ys
-  pub erase_cut : length noise ≡ 4096 → Bytes noise → (ys : List ℕ) → f ≡ 1 → ys ≡ ands xs noise
-      → put_mid (4096 * b) (4096 * b + 4096 - 4096 * b) c ys ≡ erased (power f) noise b c
+  -- the noise
+  pub erase_cut : length noise ≡ 4096 → xs ≡ noise → f ≡ 1 → put_mid (4096 * b) (4096 * b + 4096 - 4096 * b) c xs ≡ erased (power f) noise b c
   unfolding erased block_at
-  erase_cut k small ys e y =
+  erase_cut k x e =
       let n : length (take 4096 (drop (4096 * b) c)) ≡ 4096 = length_part (4096 * b) 4096 c h in
-      let y₂ : ys ≡ news (take 4096 (drop (4096 * b) c)) noise =
-      y ∙ ap (λ (l : List ℕ). ands l noise) cleared ∙ ones_laid (take 4096 (drop (4096 * b) c)) noise (n ∙ sym k) small in
+      let x₂ : xs ≡ news (take 4096 (drop (4096 * b) c)) noise = x ∙ sym (each_second _ noise (n ∙ sym k)) in
       rw (power_goes f e)
-      (part_back (4096 * b) 4096 c ys (ap length y₂ ∙ length_each _ _ noise ∙ n) ∙ ap (λ (l : List ℕ). splice c (4096 * b) l) y₂)
+      (part_back (4096 * b) 4096 c xs (ap length x ∙ k) ∙ ap (λ (l : List ℕ). splice c (4096 * b) l) x₂)
 
 -- ---- the page, lent as a part, became xs when new was laid over it
 module _ (f p : ℕ) (noise new c xs : List ℕ) (h : 256 * p + 256 ≤ length c) (x : xs ≡ ands (mid_of (256 * p) (256 * p + 256 - 256 * p) c) new) where

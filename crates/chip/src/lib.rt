@@ -9,29 +9,32 @@ ghost use Rattle.page.specs.Page.{each};
 ghost use Rattle.page.specs.Look.{look_of};
 ghost use Rattle.chip.specs.Chip.{page_at, beginning, blank_at, turned, power, erased, written};
 
-use page::Look;
+use page::{Look, Page};
 
 // The bytes of the chip from byte `at` on, as many as `to` has.
 pub fn read(chip: &[u8], at: usize, to: &mut [u8])
     requires { at + length to.old ≤ length chip.now }
     ensures { to.new ≡ take (length to.old) (drop at chip.now) }
 {
-    let n = to.len();
-    let mut i = 0;
-    while i < n {
-        to[i] = chip[at + i];
-        i += 1;
-    }
+    to.copy_from_slice(&chip[at..at + to.len()]);
+}
+
+// N bytes of the chip, from byte `at` on.
+fn bytes_at<const N: usize>(chip: &[u8], at: usize) -> [u8; N]
+    requires { at + N ≤ length chip.now }
+    ensures { result ≡ take N (drop at chip.now) }
+{
+    let mut bytes = [0u8; N];
+    read(chip, at, &mut bytes);
+    bytes
 }
 
 // The bytes of page p.
-pub fn page_at(chip: &[u8], p: usize) -> [u8; 256]
+pub fn page_at(chip: &[u8], p: usize) -> Page
     requires { 256 * p + 256 ≤ length chip.now }
     ensures { result ≡ page_at chip.now p }
 {
-    let mut page = [0u8; 256];
-    read(chip, 256 * p, &mut page);
-    page
+    bytes_at::<256>(chip, 256 * p)
 }
 
 // The beginning of page p, its first 32 bytes: a search needs no more.
@@ -39,9 +42,7 @@ pub fn beginning_at(chip: &[u8], p: usize) -> [u8; 32]
     requires { 256 * p + 256 ≤ length chip.now }
     ensures { result ≡ beginning (page_at chip.now p) }
 {
-    let mut bytes = [0u8; 32];
-    read(chip, 256 * p, &mut bytes);
-    bytes
+    bytes_at::<32>(chip, 256 * p)
 }
 
 // Whether page p is blank, so that it may be written.
@@ -63,18 +64,6 @@ pub fn look_at(chip: &[u8], p: usize) -> Look
     page::look_at(&page)
 }
 
-// All bits become 1.
-fn clear(dst: &mut [u8])
-    ensures { dst.new ≡ replicate (length dst.old) 255 }
-{
-    let n = dst.len();
-    let mut i = 0;
-    while i < n {
-        dst[i] = 255;
-        i += 1;
-    }
-}
-
 // The byte y laid over x: bits that are 1 in y become 1, or those that are 0 there become 0.
 fn laid(x: u8, y: u8, set: bool) -> u8
     ensures { result ≡ turned set x y }
@@ -87,17 +76,14 @@ fn lay(dst: &mut [u8], src: &[u8], set: bool)
     requires { length dst.old ≤ length src.now }
     ensures { dst.new ≡ each (turned set) dst.old src.now }
 {
-    let n = dst.len();
-    let mut i = 0;
-    while i < n {
-        dst[i] = laid(dst[i], src[i], set);
-        i += 1;
+    for (i, x) in dst.iter_mut().enumerate() {
+        *x = laid(*x, src[i], set);
     }
 }
 
 // Erases block b.
-pub fn erase(chip: &mut [u8], b: usize, fuse: &mut u64, noise: &[u8])
-    requires { (4096 * b + 4096 ≤ length chip.old) × (length noise.now ≡ 4096) }
+pub fn erase(chip: &mut [u8], b: usize, fuse: &mut u64, noise: &[u8; 4096])
+    requires { 4096 * b + 4096 ≤ length chip.old }
     ensures chip_after { chip.new ≡ erased (power fuse.old) noise.now b chip.old }
     ensures fuse_after { fuse.new ≡ fuse.old - 1 }
 {
@@ -108,16 +94,17 @@ pub fn erase(chip: &mut [u8], b: usize, fuse: &mut u64, noise: &[u8])
     let a = 4096 * b;
     let block = &mut chip[a..a + 4096];
     *fuse = f - 1;
-    clear(block);
     // cut short, any bytes may stand there: those of the noise
     if f == 1 {
-        lay(block, noise, false);
+        block.copy_from_slice(noise);
+    } else {
+        block.fill(255);
     }
 }
 
 // Writes page p, which is blank: by the maker's rules no other page may be written.
-pub fn write(chip: &mut [u8], p: usize, new: &[u8], fuse: &mut u64, noise: &[u8])
-    requires sized { (256 * p + 256 ≤ length chip.old) × (length new.now ≡ 256) × (length noise.now ≡ 4096) }
+pub fn write(chip: &mut [u8], p: usize, new: &Page, fuse: &mut u64, noise: &[u8; 4096])
+    requires sized { 256 * p + 256 ≤ length chip.old }
     requires blank { blank_at chip.old p ≡ true }
     ensures chip_after { chip.new ≡ written (power fuse.old) noise.now p new.now chip.old }
     ensures fuse_after { fuse.new ≡ fuse.old - 1 }

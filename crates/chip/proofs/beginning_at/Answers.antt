@@ -10,4 +10,4 @@ use Rattle.chip.proofs.beginning_at.Goals as goal
 pub returns : goal.returns
 unfolding beginning page_at
 returns c =
-    c.read.ensures ∙ sym (take-take 32 256 (drop (256 * c.args.p) c.args.chip.now) (omega arith))
+    c.bytes_at.ensures ∙ sym (take-take 32 256 (drop (256 * c.args.p) c.args.chip.now) (omega arith))

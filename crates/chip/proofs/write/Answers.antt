@@ -11,7 +11,7 @@ returns-then-f-eq0 c = search rules
 
 pub returns-then-f-eq1 : goal.returns-then-f-eq1
 returns-then-f-eq1 c =
-    record { chip_after = write_cut _ _ _ _ _ _ c.requires.sized.0 c.lay.ensures c.requires.sized.1 c.requires.blank (λ i. omega (arith, c.shared_slice_known-1.given i)) _ (omega arith) c.lay-then-f-eq1.ensures; fuse_after = search rules }
+    record { chip_after = write_cut _ _ _ _ _ _ c.requires.sized c.lay.ensures c.told-new c.requires.blank (λ i. omega (arith, c.fits-new i)) _ (omega arith) c.lay-then-f-eq1.ensures; fuse_after = search rules }
 
 pub returns-else-f-eq1 : goal.returns-else-f-eq1
-returns-else-f-eq1 c = record { chip_after = write_whole _ _ _ _ _ _ c.requires.sized.0 c.lay.ensures (omega arith); fuse_after = search rules }
+returns-else-f-eq1 c = record { chip_after = write_whole _ _ _ _ _ _ c.requires.sized c.lay.ensures (omega arith); fuse_after = search rules }
