@@ -21,8 +21,7 @@ use Rattle.ring_log.proofs.Place.{absent_alter}
 use Rattle.ring_log.proofs.Index.{pages_length, pages_at, pages_insert, pages_replace, pages_remove, index_stands}
 use Rattle.index.specs.Index.{keys_of, Ordered}
 use Rattle.index.specs.Answers.{FindsBy, Finds, put_at, take_out}
-use Rattle.index.specs.declared.Found.{Found}
-use Rattle.index.specs.declared.Found.TheVariants.{At, Missing}
+use Rattle.std.specs.Prelude.{Result, Ok, Err}
 use Rattle.index.proofs.Search.{nth_key, length_keys}
 
 keys_length : {A : Type 0} (m : Map A) → length (keys m) ≡ length m
@@ -88,23 +87,23 @@ module _ (B : ℕ) (big : 4 ≤ B) (c : List ℕ) (size : length c ≡ 4096 * B)
     behind i f j l h = subst (λ (x : Key). k ≺ x) (nth j h) (f j l (omega (arith, length_rows)))
 
     -- a page put in where it ended is the row of k
-    pub put_row : (f : Found) → Finds (keys_of c (pages B rows)) k f → (a : Placed) → put_at f (page_of B a.0) (pages B rows) ≡ pages B (alter k (some a) rows)
+    pub put_row : (f : Result ℕ ℕ) → Finds (keys_of c (pages B rows)) k f → (a : Placed) → put_at f (page_of B a.0) (pages B rows) ≡ pages B (alter k (some a) rows)
     put_row f x a = go f x.says
       where
-        go : (f : Found) → FindsBy (keys_of c (pages B rows)) k f → put_at f (page_of B a.0) (pages B rows) ≡ pages B (alter k (some a) rows)
-        go (At i) x = let h : i < length rows = omega (arith, x.0, length_rows) in
+        go : (f : Result ℕ ℕ) → FindsBy (keys_of c (pages B rows)) k f → put_at f (page_of B a.0) (pages B rows) ≡ pages B (alter k (some a) rows)
+        go (Ok i) x = let h : i < length rows = omega (arith, x.0, length_rows) in
             sym (pages_replace B none_there k rows i a (run_sorted B (rec_at c) e s) h (x.1 ∙ nth i h))
-        go (Missing i) x = let h : i ≤ length rows = omega (arith, x.0, length_rows) in
+        go (Err i) x = let h : i ≤ length rows = omega (arith, x.0, length_rows) in
             sym (pages_insert B none_there k rows i a h (before i h x.1) (behind i x.2))
 
     -- one taken out is its row gone
-    pub take_row : (f : Found) → Finds (keys_of c (pages B rows)) k f → take_out f (pages B rows) ≡ pages B (alter k none rows)
+    pub take_row : (f : Result ℕ ℕ) → Finds (keys_of c (pages B rows)) k f → take_out f (pages B rows) ≡ pages B (alter k none rows)
     take_row f x = go f x.says
       where
-        go : (f : Found) → FindsBy (keys_of c (pages B rows)) k f → take_out f (pages B rows) ≡ pages B (alter k none rows)
-        go (At i) x = let h : i < length rows = omega (arith, x.0, length_rows) in
+        go : (f : Result ℕ ℕ) → FindsBy (keys_of c (pages B rows)) k f → take_out f (pages B rows) ≡ pages B (alter k none rows)
+        go (Ok i) x = let h : i < length rows = omega (arith, x.0, length_rows) in
             sym (pages_remove B none_there k rows i (run_sorted B (rec_at c) e s) h (x.1 ∙ nth i h))
-        go (Missing i) x = let h : i ≤ length rows = omega (arith, x.0, length_rows) in
+        go (Err i) x = let h : i ≤ length rows = omega (arith, x.0, length_rows) in
             sym (ap (pages B) (absent_alter none_there k rows i h (before i h x.1) (behind i x.2) none ∙ take-append-drop i rows))
 
   -- THE KEYS OF THE ENTRIES are those of the rows
@@ -124,7 +123,7 @@ module _ (B : ℕ) (big : 4 ≤ B) (c : List ℕ) (size : length c ≡ 4096 * B)
   unfolding table table_at
   table_ordered = rows_ordered B big c size (head B (chip_of c) + B) (15 * (head B (chip_of c) + B) + 15)
 
-  module _ (k : Key) (f : Found) (x : Finds (keys_of c (pages B (table B (chip_of c)))) k f) where
+  module _ (k : Key) (f : Result ℕ ℕ) (x : Finds (keys_of c (pages B (table B (chip_of c)))) k f) where
     pub table_put : (a : Placed) → put_at f (page_of B a.0) (pages B (table B (chip_of c))) ≡ pages B (alter k (some a) (table B (chip_of c)))
     unfolding table table_at
     table_put a = put_row B big c size (head B (chip_of c) + B) (15 * (head B (chip_of c) + B) + 15) k f x a

@@ -1,20 +1,19 @@
 -- A binary search: all keys before lo come before k, and all from hi on after it. Assumes nothing.
-use mathlib.Core.Path.{◌≡◌, refl, sym, ap, ◌∙◌, subst}
+use mathlib.Core.Path.{◌≡◌, refl, sym, ◌∙◌, subst}
 use mathlib.Core.Logic.{◌⊎◌, inl, inr}
 use mathlib.Core.List.{List, [], ◌∷◌, map}
 use Prim.Native.Nat.{ℕ, zero, suc, ◌+◌, ◌/◌, ◌≤◌, ◌<◌}
 use native.Mathlib.Nat.{le_of_suc-le-suc, not-suc-le-zero, eq-or-lt_of_le}
 use native.Mathlib.Omega.{arith}
-use lib.ListN.{length, take, get_or, length-map}
-use lib.Seq.{get_or-take, length-take-le}
+use lib.ListN.{length, get_or, length-map}
 use Rattle.record.specs.Record.{key_at}
 use Rattle.ring_log.specs.Key.{Key, ◌≺◌}
 use Rattle.ring_log.proofs.KeyLaws.{≺_trans}
 use Rattle.index.specs.Index.{keys_of, Ordered}
 use Rattle.index.specs.Answers.{ComparedBy, Compared, Finds}
-use Rattle.index.specs.declared.Order.{Order}
-use Rattle.index.specs.declared.Order.TheVariants.{Below, Same, Above}
-use Rattle.index.specs.declared.Found.TheVariants.{At, Missing}
+use Rattle.std.specs.declared.cmp.Ordering.{Ordering}
+use Rattle.std.specs.declared.cmp.Ordering.TheVariants.{Less, Equal, Greater}
+use Rattle.std.specs.Prelude.{Ok, Err}
 
 nth_map : (f : ℕ → Key) (ps : List ℕ) (i : ℕ) → i < length ps → get_or (map f ps) i [] ≡ f (get_or ps i 0)
 nth_map f [] i h = absurd (not-suc-le-zero h)
@@ -57,11 +56,11 @@ module _ (c ps : List ℕ) (k : Key) (o : Ordered c ps) (lo hi : ℕ) (b : Brack
       go j i (inr l) = ≺_trans k (key_at c (get_or ps m 0)) (key_at c (get_or ps j 0)) e (o.rising m j l i)
 
   -- it is k
-  pub found_at : key_at c (get_or ps m 0) ≡ k → Finds (keys_of c ps) k (At m)
+  pub found_at : key_at c (get_or ps m 0) ≡ k → Finds (keys_of c ps) k (Ok m)
   found_at e = record { says = (subst (λ (n : ℕ). m < n) (sym (length_keys c ps)) h, sym (nth_key c ps m h ∙ e)) }
 
 -- nothing is left between: k is none of the keys
-pub found_none : (c ps : List ℕ) (k : Key) (lo hi : ℕ) → Bracket c ps k lo hi → hi ≤ lo → lo ≤ length ps → Finds (keys_of c ps) k (Missing lo)
+pub found_none : (c ps : List ℕ) (k : Key) (lo hi : ℕ) → Bracket c ps k lo hi → hi ≤ lo → lo ≤ length ps → Finds (keys_of c ps) k (Err lo)
 found_none c ps k lo hi b h l =
     record {
       says = (
@@ -73,31 +72,21 @@ found_none c ps k lo hi b h l =
       );
     }
 
--- ---- a turn of the loop: among the first n entries of ix the one in the middle, m, is page p, whose key was compared with k
-module _ (c ix : List ℕ) (k : Key) (n m p : ℕ) (fits : n ≤ length ix) (h : m < n) (e : p ≡ get_or ix m 0) where
-  mid_in : m < length (take n ix)
-  mid_in = omega (arith, length-take-le n ix fits)
+-- ---- a turn of the loop: the key on the page that is the entry in the middle, m, was compared with k
+module _ (c ix : List ℕ) (k : Key) (m : ℕ) (h : m < length ix) (o : Ordered c ix) where
+  -- that page lies on the chip
+  pub turn_inside : length c / 256 ≤ get_or ix m 0 → ⊥
+  turn_inside l = omega (arith, o.inside m h)
 
-  middle : p ≡ get_or (take n ix) m 0
-  middle = e ∙ sym (get_or-take n ix m 0 h)
+  module _ (r : Ordering) (d : Compared (key_at c (get_or ix m 0)) k r) (lo hi : ℕ) (b : Bracket c ix k lo hi) where
+    said : (s : Ordering) → r ≡ s → ComparedBy (key_at c (get_or ix m 0)) k s
+    said s w = subst (ComparedBy (key_at c (get_or ix m 0)) k) w d.says
 
-  -- where the entries are ordered it lies on the chip
-  pub turn_inside : Ordered c (take n ix) → length c / 256 ≤ p → ⊥
-  turn_inside o l = omega (arith, o.inside m mid_in, middle)
+    pub turn_up : r ≡ Less → Bracket c ix k (m + 1) hi
+    turn_up w = bracket_up c ix k o lo hi b m h (said Less w)
 
-  module _ (r : Order) (d : Compared (key_at c p) k r) where
-    key_middle : key_at c p ≡ key_at c (get_or (take n ix) m 0)
-    key_middle = ap (key_at c) middle
+    pub turn_down : r ≡ Greater → Bracket c ix k lo m
+    turn_down w = bracket_down c ix k o lo hi b m h (said Greater w)
 
-    said : (s : Order) → r ≡ s → ComparedBy (key_at c p) k s
-    said s w = subst (ComparedBy (key_at c p) k) w d.says
-
-    module _ (o : Ordered c (take n ix)) where
-      pub turn_up : (lo hi : ℕ) → r ≡ Below → Bracket c (take n ix) k lo hi → Bracket c (take n ix) k (m + 1) hi
-      turn_up lo hi w b = bracket_up c (take n ix) k o lo hi b m mid_in (subst (λ (x : Key). x ≺ k) key_middle (said Below w))
-
-      pub turn_down : (lo hi : ℕ) → r ≡ Above → Bracket c (take n ix) k lo hi → Bracket c (take n ix) k lo m
-      turn_down lo hi w b = bracket_down c (take n ix) k o lo hi b m mid_in (subst (λ (x : Key). k ≺ x) key_middle (said Above w))
-
-      pub turn_found : (lo hi : ℕ) → r ≡ Same → Bracket c (take n ix) k lo hi → Finds (keys_of c (take n ix)) k (At m)
-      turn_found lo hi w b = found_at c (take n ix) k o lo hi b m mid_in (sym key_middle ∙ said Same w)
+    pub turn_found : r ≡ Equal → Finds (keys_of c ix) k (Ok m)
+    turn_found w = found_at c ix k o lo hi b m h (said Equal w)

@@ -18,7 +18,7 @@ use Rattle.ring_log.proofs.Place.{absent_lookup, found_lookup}
 use Rattle.ring_log.proofs.Index.{pages_at, index_stands}
 use Rattle.index.specs.Index.{keys_of}
 use Rattle.index.specs.Answers.{FindsBy}
-use Rattle.index.specs.declared.Found.TheVariants.{At, Missing}
+use Rattle.std.specs.Prelude.{Ok, Err}
 use Rattle.index.proofs.Rows.{entry_inside, nth, length_rows, before, behind}
 
 -- ---- THE ROWS OF THE PLACES BEFORE s
@@ -34,7 +34,7 @@ module _ (B : ℕ) (big : 4 ≤ B) (c : List ℕ) (size : length c ≡ 4096 * B)
 
   module _ (k : Key) (i : ℕ) where
     -- k was found at i: its value stands on the page of entry i
-    pub found_value : FindsBy (keys_of c (pages B rows)) k (At i) → lookup k (bytes rows) ≡ some (value_at c (get_or (pages B rows) i 0))
+    pub found_value : FindsBy (keys_of c (pages B rows)) k (Ok i) → lookup k (bytes rows) ≡ some (value_at c (get_or (pages B rows) i 0))
     found_value x =
         let h : i < length rows = omega (arith, x.0, length_rows B big c size e s k) in
         lookup_map_v (λ (a : Placed). a.1) k rows
@@ -42,11 +42,11 @@ module _ (B : ℕ) (big : 4 ≤ B) (c : List ℕ) (size : length c ≡ 4096 * B)
         ∙ ap (λ (v : List ℕ). some v) (sym (entry_value i h))
 
     -- the entry is a page of the chip
-    pub found_inside : FindsBy (keys_of c (pages B rows)) k (At i) → 256 * get_or (pages B rows) i 0 + 256 ≤ length c
+    pub found_inside : FindsBy (keys_of c (pages B rows)) k (Ok i) → 256 * get_or (pages B rows) i 0 + 256 ≤ length c
     found_inside x = entry_inside B big c size e s i (omega (arith, x.0, length_rows B big c size e s k))
 
     -- k was missed: it has no value
-    pub missed_value : FindsBy (keys_of c (pages B rows)) k (Missing i) → lookup k (bytes rows) ≡ none
+    pub missed_value : FindsBy (keys_of c (pages B rows)) k (Err i) → lookup k (bytes rows) ≡ none
     missed_value x =
         let h : i ≤ length rows = omega (arith, x.0, length_rows B big c size e s k) in
         lookup_map_v (λ (a : Placed). a.1) k rows

@@ -7,48 +7,35 @@ ghost use Rattle.record.specs.Record.{key_at};
 ghost use Rattle.index.specs.Index.{keys_of, Ordered, insert_at, remove_at};
 ghost use Rattle.index.specs.Answers.{Compared, Within, Finds, put_at, take_out};
 
-// How one key stands to another.
-#[derive(Clone, Copy)]
-pub enum Order {
-    Below,
-    Same,
-    Above,
-}
-
-// Where a key stands in the index, or would stand.
-#[derive(Clone, Copy)]
-pub enum Found {
-    At(usize),
-    Missing(usize),
-}
+use std::cmp::Ordering;
 
 // Two keys: byte by byte, a shorter key before its longer continuations.
-pub fn compare(a: &[u8], b: &[u8]) -> Order
+pub fn compare(a: &[u8], b: &[u8]) -> Ordering
     ensures { Compared a.now b.now result }
 {
     let mut i = 0;
     while i < a.len() {
         if b.len() <= i {
-            return Order::Above;
+            return Ordering::Greater;
         }
         let x = a[i];
         let y = b[i];
         if x < y {
-            return Order::Below;
+            return Ordering::Less;
         }
         if y < x {
-            return Order::Above;
+            return Ordering::Greater;
         }
         i += 1;
     }
     if i < b.len() {
-        return Order::Below;
+        return Ordering::Less;
     }
-    Order::Same
+    Ordering::Equal
 }
 
 // How the key on page p stands to a key. Of the page the beginning is read, 32 bytes.
-fn compare_at(chip: &[u8], p: usize, key: &[u8]) -> Order
+fn compare_at(chip: &[u8], p: usize, key: &[u8]) -> Ordering
     requires { 256 * p + 256 ≤ length chip.now }
     ensures { Compared (key_at chip.now p) key.now result }
 {
@@ -56,41 +43,34 @@ fn compare_at(chip: &[u8], p: usize, key: &[u8]) -> Order
     compare(record::key_on(&begins), key)
 }
 
-// A word of the work area as a number.
-pub fn word(x: u32) -> usize
-    ensures { result ≡ x }
-{
-    x as usize
-}
-
-// The key's place among the first n entries. Whatever they are, the place is within; where they are pages of the chip in the order of their keys, it is the key's.
-pub fn find(chip: &[u8], index: &[u32], n: usize, key: &[u8]) -> Found
-    requires { n ≤ length index.now }
-    ensures within { Within n result }
-    ensures right { Ordered chip.now (take n index.now) → Finds (keys_of chip.now (take n index.now)) key.now result }
+// The key's place in the index: where it stands, or else where it would stand. Whatever the entries are, the place is within; where they are pages of the chip in
+// the order of their keys, it is the key's.
+pub fn find(chip: &[u8], index: &[u32], key: &[u8]) -> Result<usize, usize>
+    ensures within { Within (length index.now) result }
+    ensures right { Ordered chip.now index.now → Finds (keys_of chip.now index.now) key.now result }
 {
     let pages = chip.len() / 256;
     let mut lo = 0;
-    let mut hi = n;
+    let mut hi = index.len();
     while lo < hi {
         let mid = lo + (hi - lo) / 2;
-        let p = word(index[mid]);
+        let p = index[mid] as usize;
         if pages <= p {
-            return Found::Missing(lo);
+            return Err(lo);
         }
         match compare_at(chip, p, key) {
-            Order::Below => {
+            Ordering::Less => {
                 lo = mid + 1;
             }
-            Order::Same => {
-                return Found::At(mid);
+            Ordering::Equal => {
+                return Ok(mid);
             }
-            Order::Above => {
+            Ordering::Greater => {
                 hi = mid;
             }
         }
     }
-    Found::Missing(lo)
+    Err(lo)
 }
 
 // x comes to stand at pos among the first n entries.
@@ -119,17 +99,17 @@ fn remove(index: &mut [u32], n: usize, pos: usize)
 }
 
 // Page x for the key that was found or missed. Answers how many entries there are now.
-pub fn put_in(index: &mut [u32], n: usize, found: Found, x: u32) -> usize
+pub fn put_in(index: &mut [u32], n: usize, found: Result<usize, usize>, x: u32) -> usize
     requires { (n < length index.old) × Within n found }
     ensures within { (n ≤ result) × (result ≤ n + 1) }
     ensures right { take result index.new ≡ put_at found x (take n index.old) }
 {
     match found {
-        Found::At(i) => {
+        Ok(i) => {
             index[i] = x;
             n
         }
-        Found::Missing(i) => {
+        Err(i) => {
             insert(index, n, i, x);
             n + 1
         }
@@ -137,16 +117,16 @@ pub fn put_in(index: &mut [u32], n: usize, found: Found, x: u32) -> usize
 }
 
 // The page of the key that was found goes out. Answers how many entries there are now.
-pub fn take_out(index: &mut [u32], n: usize, found: Found) -> usize
+pub fn take_out(index: &mut [u32], n: usize, found: Result<usize, usize>) -> usize
     requires { (n ≤ length index.old) × Within n found }
     ensures within { (result ≤ n) × (n ≤ result + 1) }
     ensures right { take result index.new ≡ take_out found (take n index.old) }
 {
     match found {
-        Found::At(i) => {
+        Ok(i) => {
             remove(index, n, i);
             n - 1
         }
-        Found::Missing(_) => n,
+        Err(_) => n,
     }
 }
