@@ -2,17 +2,17 @@
 use mathlib.Core.Path.{◌≡◌, refl, sym, ap, ap₂, ◌∙◌, subst}
 use mathlib.Core.Bool.{true, false}
 use mathlib.Core.Option.{Option, none, some}
-use mathlib.Core.List.{List, [], ◌∷◌, ◌++◌, append-nil}
+use mathlib.Core.List.{List, [], ◌∷◌}
 use Prim.Native.Nat.{ℕ, zero, suc, ◌+◌, ◌≤◌, min}
 use native.Mathlib.Nat.{min-eq_left}
 use native.Mathlib.Omega.{arith}
-use lib.ListN.{length, take, drop, length-drop, drop_of_length-le}
+use lib.ListN.{length, take, drop, length-drop}
 use lib.Seq.{length-take-le, get_or-drop}
 use Rattle.page.specs.Page.{byte, Bytes}
-use Rattle.chip.specs.Chip.{splice}
 use Rattle.record.specs.Record.{Rec, Proper, value_of, record_of, record_page, rec_of, key_on, value_on, page_or, anew}
 use Rattle.record.specs.Kinds.{kind_of}
-use Rattle.record.specs.declared.Kind.TheVariants.{Value, Note, Nothing}
+use Rattle.std.specs.Prelude.{None, Some}
+use Rattle.record.specs.declared.Kind.TheVariants.{Value, Note}
 use Rattle.record.proofs.Reading.{said, kind_value, kind_note, kind_nothing}
 use Rattle.record.proofs.Trip.{record_length, record_bytes, record_says}
 
@@ -86,11 +86,11 @@ module _ (pg : List ℕ) (h : length pg ≡ 256) (b : Bytes pg) where
 
 -- ---- THE CODE'S THREE CASES
 module _ (pg : List ℕ) where
-  pub anew_nothing : kind_of (rec_of pg) ≡ Nothing → pg ≡ anew pg
+  pub anew_nothing : kind_of (rec_of pg) ≡ None → pg ≡ anew pg
   unfolding anew
   anew_nothing k = ap (page_or pg) (sym (kind_nothing (rec_of pg) k))
 
-  pub anew_value : kind_of (rec_of pg) ≡ Value → record_page (record_of false (key_on pg) (value_on pg)) ≡ anew pg
+  pub anew_value : kind_of (rec_of pg) ≡ Some Value → record_page (record_of false (key_on pg) (value_on pg)) ≡ anew pg
   unfolding anew key_on value_on
   anew_value k =
       let w = kind_value (rec_of pg) k in
@@ -99,17 +99,10 @@ module _ (pg : List ℕ) where
       let value : value_on pg ≡ w.1 = ap (λ (n : ℕ). take n (drop 32 pg)) (min-eq_left on.short_value) ∙ on.value w.1 refl in
       ap₂ (λ (x y : List ℕ). record_page (record_of false x y)) key value ∙ ap (page_or pg) (sym w.2)
 
-  pub anew_note : kind_of (rec_of pg) ≡ Note → record_page (record_of true (key_on pg) []) ≡ anew pg
+  pub anew_note : kind_of (rec_of pg) ≡ Some Note → record_page (record_of true (key_on pg) []) ≡ anew pg
   unfolding anew key_on
   anew_note k =
       let w = kind_note (rec_of pg) k in
       let on = said pg (record_of true w.0 []) w.1 in
       let key : key_on pg ≡ w.0 = ap (λ (n : ℕ). take n (drop 16 pg)) (min-eq_left on.short_key) ∙ on.key in
       ap (λ (x : List ℕ). record_page (record_of true x [])) key ∙ ap (page_or pg) (sym w.1)
-
--- a page laid over another is that page
-pub whole : (zeros pg : List ℕ) → length zeros ≡ 256 → length pg ≡ 256 → splice zeros 0 pg ≡ pg
-unfolding splice
-whole zeros pg n h =
-    let all : length zeros ≤ 0 + length pg = omega arith in
-    ap (λ (l : List ℕ). pg ++ l) (drop_of_length-le zeros all) ∙ append-nil pg

@@ -2,23 +2,13 @@
 use mathlib.Core.Path.{◌≡◌, refl, sym, ap, ◌∙◌}
 use mathlib.Core.Bool.{Bool, true, false}
 use mathlib.Core.List.{List, [], ◌∷◌, ◌++◌, append_assoc}
-use Prim.Native.Nat.{ℕ, zero, suc, ◌+◌, ◌-◌, ◌≤◌, ◌<◌}
+use Prim.Native.Nat.{ℕ, zero, suc, ◌+◌, ◌-◌, ◌≤◌}
 use native.Mathlib.Omega.{arith}
-use native.Mathlib.Numerals.{add-one}
-use lib.ListN.{length, set, take, drop, replicate, length-append, length-replicate, replicate-append-replicate}
-use lib.Seq.{get_or-append-add, take_at, drop_at, take-length, drop-append-add, paste, paste-suc}
+use lib.ListN.{length, take, drop, replicate, length-append, length-replicate, replicate-append-replicate}
+use lib.Seq.{get_or-append-add, take_at, drop_at, drop-append-add}
 use Rattle.page.specs.Page.{byte, Bare}
 use Rattle.chip.specs.Chip.{splice}
 use Rattle.record.specs.Record.{pad, payload, new_page, record_of, record_page}
-
--- the loop of `copy_in`: a turn, and its end
-pub paste_more : (d s l : List ℕ) (a i : ℕ) → a + i < length d → i < length s → l ≡ paste d a s i → set l (a + i) (byte s i) ≡ paste d a s (i + 1)
-paste_more d s l a i h k e = ap (λ (x : List ℕ). set x (a + i) (byte s i)) e ∙ paste-suc d a s i 0 h k ∙ ap (paste d a s) (sym (add-one i))
-
-pub paste_all : (d s l : List ℕ) (a i : ℕ) → i ≡ length s → l ≡ paste d a s i → l ≡ splice d a s
-unfolding splice
-paste_all d s l a i q e =
-    e ∙ ap (paste d a s) q ∙ ap (λ (x : List ℕ). take a d ++ x ++ drop (a + length s) d) (take-length s) ∙ append_assoc (take a d) s (drop (a + length s) d)
 
 abbrev zeros : ℕ → List ℕ
 zeros n = replicate n 0

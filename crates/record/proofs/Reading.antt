@@ -17,7 +17,9 @@ use Rattle.chip.proofs.Pages.{length_page}
 use Rattle.record.specs.Record.{Rec, record_of, longest, is_value, is_note, decode, rec_of, rec_at, key_on, key_at, value_on, value_at}
 use Rattle.record.specs.Kinds.{kind_of, kind_of_what}
 use Rattle.record.specs.declared.Kind.{Kind}
-use Rattle.record.specs.declared.Kind.TheVariants.{Value, Note, Nothing}
+use Rattle.std.specs.Prelude.{Option as Answer}
+use Rattle.std.specs.Prelude.{None, Some}
+use Rattle.record.specs.declared.Kind.TheVariants.{Value, Note}
 
 pub record Said (pg : List ℕ) (r : Rec) : Type 0 where
   pub is_sound : sound pg ≡ true
@@ -119,34 +121,30 @@ module _ (c : List ℕ) (p : ℕ) (r : Rec) (e : rec_at c p ≡ some r) where
     says_short_key = omega (arith, key_length, on_page.short_key)
 
 -- ---- WHAT THE CODE'S ANSWER MEANS: nothing, a value or a note
-pub kind_nothing : (o : Option Rec) → kind_of o ≡ Nothing → o ≡ none
+pub kind_nothing : (o : Option Rec) → kind_of o ≡ None → o ≡ none
 unfolding kind_of
 kind_nothing none e = refl
-kind_nothing (some r) e = go r.what e
-  where
-    go : (w : Option (List ℕ)) → kind_of_what w ≡ Nothing → some r ≡ none
-    go none q = let z : ◌≡◌ {A = ℕ} 0 1 = cc in absurd (omega arith)
-    go (some v) q = let z : ◌≡◌ {A = ℕ} 0 1 = cc in absurd (omega arith)
+kind_nothing (some r) e = let z : ◌≡◌ {A = ℕ} 0 1 = cc in absurd (omega arith)
 
-pub kind_value : (o : Option Rec) → kind_of o ≡ Value → (k : List ℕ) × (v : List ℕ) × (o ≡ some (record_of false k v))
+pub kind_value : (o : Option Rec) → kind_of o ≡ Some Value → (k : List ℕ) × (v : List ℕ) × (o ≡ some (record_of false k v))
 unfolding kind_of
 kind_value none e = let z : ◌≡◌ {A = ℕ} 0 1 = cc in absurd (omega arith)
 kind_value (some r) e = go r.what refl e
   where
-    go : (w : Option (List ℕ)) → r.what ≡ w → kind_of_what w ≡ Value → (k : List ℕ) × (v : List ℕ) × (some r ≡ some (record_of false k v))
+    go : (w : Option (List ℕ)) → r.what ≡ w → Some (kind_of_what w) ≡ Some Value → (k : List ℕ) × (v : List ℕ) × (some r ≡ some (record_of false k v))
     go none h q = let z : ◌≡◌ {A = ℕ} 0 1 = cc in absurd (omega arith)
     go (some v) h q = (r.key, v, λ i. some (record { key = r.key; what = h i }))
 
-pub kind_note : (o : Option Rec) → kind_of o ≡ Note → (k : List ℕ) × (o ≡ some (record_of true k []))
+pub kind_note : (o : Option Rec) → kind_of o ≡ Some Note → (k : List ℕ) × (o ≡ some (record_of true k []))
 unfolding kind_of
 kind_note none e = let z : ◌≡◌ {A = ℕ} 0 1 = cc in absurd (omega arith)
 kind_note (some r) e = go r.what refl e
   where
-    go : (w : Option (List ℕ)) → r.what ≡ w → kind_of_what w ≡ Note → (k : List ℕ) × (some r ≡ some (record_of true k []))
+    go : (w : Option (List ℕ)) → r.what ≡ w → Some (kind_of_what w) ≡ Some Note → (k : List ℕ) × (some r ≡ some (record_of true k []))
     go none h q = (r.key, λ i. some (record { key = r.key; what = h i }))
     go (some v) h q = let z : ◌≡◌ {A = ℕ} 0 1 = cc in absurd (omega arith)
 
 -- what kind of thing page p says, by the bytes that were read
-pub read_kind : (c pg : List ℕ) (p : ℕ) (k s : Kind) → pg ≡ page_at c p → k ≡ kind_of (rec_of pg) → k ≡ s → kind_of (rec_at c p) ≡ s
+pub read_kind : (c pg : List ℕ) (p : ℕ) (k s : Answer Kind) → pg ≡ page_at c p → k ≡ kind_of (rec_of pg) → k ≡ s → kind_of (rec_at c p) ≡ s
 unfolding rec_at
 read_kind c pg p k s u e d = sym (e ∙ ap (λ (g : List ℕ). kind_of (rec_of g)) u) ∙ d

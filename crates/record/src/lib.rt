@@ -4,9 +4,12 @@
 #![tactic(auto)]
 
 ghost use Rattle.std.specs.Prelude.{◌≡◌, ◌+◌, ◌*◌, ◌≤◌, min, length};
-ghost use Rattle.chip.specs.Chip.{page_at, splice};
+ghost use Rattle.chip.specs.Chip.{page_at};
 ghost use Rattle.record.specs.Record.{most_value, longest, is_value, is_note, rec_of, key_on, value_length, value_on, value_at, new_page, record_of, record_page, seal_page, anew};
 ghost use Rattle.record.specs.Kinds.{kind_of};
+ghost use Rattle.record.specs.Marks.{mark_byte};
+
+use page::Page;
 
 // The longest value.
 pub const MOST_VALUE: usize = 220;
@@ -16,7 +19,22 @@ pub const MOST_VALUE: usize = 220;
 pub enum Kind {
     Value,
     Note,
-    Nothing,
+}
+
+// Byte 1 of a page that is written.
+#[derive(Clone, Copy)]
+enum Mark {
+    Value = 1,
+    Note = 2,
+    Seal = 3,
+}
+
+impl Mark {
+    fn byte(self) -> u8
+        ensures { result ≡ mark_byte self }
+    {
+        self as u8
+    }
 }
 
 // The longest value that a page of a form has.
@@ -30,47 +48,38 @@ fn longest(form: u8) -> u8
 fn is_value(form: u8, kind: u8, klen: u8, vlen: u8) -> bool
     ensures { result ≡ is_value form kind klen vlen }
 {
-    (kind == 1) & (1 <= klen) & (klen <= 16) & (vlen <= longest(form))
+    (kind == Mark::Value.byte()) & (1 <= klen) & (klen <= 16) & (vlen <= longest(form))
 }
 
 // Whether bytes 1 to 3 of a page are those of a note.
 fn is_note(kind: u8, klen: u8, vlen: u8) -> bool
     ensures { result ≡ is_note kind klen vlen }
 {
-    (kind == 2) & (1 <= klen) & (klen <= 16) & (vlen == 0)
+    (kind == Mark::Note.byte()) & (1 <= klen) & (klen <= 16) & (vlen == 0)
 }
 
 // What kind of thing a page says. Four bytes are looked at first: of a blank page no more.
 #[tactic(auto, using(crate::proofs::KindTests::test_neither, crate::proofs::KindTests::test_unsound, crate::proofs::KindTests::test_value, crate::proofs::KindTests::test_note))]
-pub fn kind_of(page: &[u8]) -> Kind
-    requires { length page.now ≡ 256 }
+pub fn kind_of(page: &Page) -> Option<Kind>
     ensures { result ≡ kind_of (rec_of page.now) }
 {
     let value = is_value(page[0], page[1], page[2], page[3]);
     let note = is_note(page[1], page[2], page[3]);
     if !(value | note) {
-        return Kind::Nothing;
+        return None;
     }
     if !page::is_sound(page) {
-        return Kind::Nothing;
+        return None;
     }
-    if value { Kind::Value } else { Kind::Note }
+    Some(if value { Kind::Value } else { Kind::Note })
 }
 
-// A length that stands on a page, cut at what a page holds.
-fn at_most(x: u8, most: usize) -> usize
-    ensures { result ≡ min x most }
-{
-    let n = x as usize;
-    if n < most { n } else { most }
-}
-
-// The key on a page, of which the beginning will do.
+// The key on a page, of which the beginning will do. A length that stands on a page is cut at what a page holds.
 pub fn key_on(page: &[u8]) -> &[u8]
     requires { 32 ≤ length page.now }
     ensures { result.now ≡ key_on page.now }
 {
-    let n = at_most(page[2], 16);
+    let n = usize::from(page[2]).min(16);
     &page[16..16 + n]
 }
 
@@ -79,12 +88,11 @@ pub fn value_length(page: &[u8]) -> usize
     requires { 32 ≤ length page.now }
     ensures { result ≡ value_length page.now }
 {
-    at_most(page[3], MOST_VALUE)
+    usize::from(page[3]).min(MOST_VALUE)
 }
 
 // The value on a page.
-pub fn value_on(page: &[u8]) -> &[u8]
-    requires { length page.now ≡ 256 }
+pub fn value_on(page: &Page) -> &[u8]
     ensures { result.now ≡ value_on page.now }
 {
     let n = value_length(page);
@@ -99,71 +107,48 @@ pub fn read_value(chip: &[u8], p: usize, to: &mut [u8])
     chip::read(chip, 256 * p + 32, to);
 }
 
-// Copies src to dst, from index a on.
-fn copy_in(dst: &mut [u8], a: usize, src: &[u8])
-    requires { a + length src.now ≤ length dst.old }
-    ensures { dst.new ≡ splice dst.old a src.now }
-{
-    let mut i = 0;
-    while i < src.len() {
-        dst[a + i] = src[i];
-        i += 1;
-    }
-}
-
-// The page of a kind, a key and a value.
-fn page_of(kind: u8, key: &[u8], value: &[u8]) -> [u8; 256]
+// The page of a mark, a key and a value.
+fn page_of(mark: Mark, key: &[u8], value: &[u8]) -> Page
     requires { (length key.now ≤ 16) × (length value.now ≤ most_value) }
-    ensures { result ≡ new_page kind key.now value.now }
+    ensures { result ≡ new_page (mark_byte mark) key.now value.now }
 {
     let mut page = [0u8; 256];
     page[0] = 2;
-    page[1] = kind;
+    page[1] = mark.byte();
     page[2] = key.len() as u8;
     page[3] = value.len() as u8;
-    copy_in(&mut page, 16, key);
-    copy_in(&mut page, 32, value);
+    page[16..16 + key.len()].copy_from_slice(key);
+    page[32..32 + value.len()].copy_from_slice(value);
     page::fill(&mut page, 32 + value.len());
     page
 }
 
 // The page of a record: of a note of the key's deletion, or of its value.
-pub fn encode(note: bool, key: &[u8], value: &[u8]) -> [u8; 256]
+pub fn encode(note: bool, key: &[u8], value: &[u8]) -> Page
     requires { (length key.now ≤ 16) × (length value.now ≤ most_value) }
     ensures { result ≡ record_page (record_of note key.now value.now) }
 {
     if note {
-        return page_of(2, key, &value[..0]);
+        return page_of(Mark::Note, key, b"");
     }
-    page_of(1, key, value)
-}
-
-// A page as it stands.
-fn as_it_stands(page: &[u8]) -> [u8; 256]
-    requires { length page.now ≡ 256 }
-    ensures { result ≡ page.now }
-{
-    let mut copy = [0u8; 256];
-    copy_in(&mut copy, 0, page);
-    copy
+    page_of(Mark::Value, key, value)
 }
 
 // A page made anew: what it says is decoded, and encoded in the form that is written now. One that says nothing stays as it is: a page that went bad must not
 // become a sound one.
-pub fn anew(page: &[u8]) -> [u8; 256]
-    requires { length page.now ≡ 256 }
+pub fn anew(page: &Page) -> Page
     ensures { result ≡ anew page.now }
 {
     match kind_of(page) {
-        Kind::Value => encode(false, key_on(page), value_on(page)),
-        Kind::Note => encode(true, key_on(page), value_on(page)),
-        Kind::Nothing => as_it_stands(page),
+        Some(Kind::Value) => encode(false, key_on(page), value_on(page)),
+        Some(Kind::Note) => encode(true, key_on(page), value_on(page)),
+        None => *page,
     }
 }
 
 // The page of a seal.
-pub fn seal() -> [u8; 256]
+pub fn seal() -> Page
     ensures { result ≡ seal_page }
 {
-    page_of(3, b"", b"")
+    page_of(Mark::Seal, b"", b"")
 }

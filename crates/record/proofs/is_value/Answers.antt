@@ -2,4 +2,4 @@
 use Rattle.record.proofs.is_value.Goals as goal
 
 pub returns : goal.returns
-returns c = rw c.longest.ensures
+returns c = rw (c.byte.ensures, c.longest.ensures)
