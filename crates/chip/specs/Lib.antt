@@ -1,2 +1,3 @@
 pub mod Chip
 pub mod Play
+pub mod Lent

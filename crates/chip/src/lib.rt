@@ -7,9 +7,75 @@
 ghost use Rattle.std.specs.Prelude.{◌≡◌, true, ◌+◌, ◌-◌, ◌*◌, ◌≤◌, length, take, drop, replicate};
 ghost use Rattle.page.specs.Page.{each};
 ghost use Rattle.page.specs.Look.{look_of};
+ghost use Rattle.chip.specs.Lent.{Same, Lit, Erases, Writes};
 ghost use Rattle.chip.specs.Chip.{page_at, beginning, blank_at, turned, power, erased, written};
 
 use page::{Look, Page};
+
+// What ends a call before its end: the power went, or a page that was to be written isn't blank.
+#[derive(Clone, Copy)]
+pub enum Halt {
+    Dark,
+    Dirty,
+}
+
+// What a call that may change the chip is lent of it: its bytes, the number of the fault script, and what a cut leaves. They are changed here alone.
+#[derive(Drop)]
+pub struct Chip<'a> {
+    bytes: &'a mut [u8],
+    fuse: &'a mut u64,
+    noise: &'a [u8; 4096],
+}
+
+impl<'a> Chip<'a> {
+    pub fn new(bytes: &'a mut [u8], fuse: &'a mut u64, noise: &'a [u8; 4096]) -> Chip<'a>
+        ensures bytes { (result.bytes.ghost_name ≡ bytes.entry.ghost_name) × (result.bytes.now ≡ bytes.old) }
+        ensures fuse { (result.fuse.ghost_name ≡ fuse.entry.ghost_name) × (result.fuse.now ≡ fuse.old) }
+        ensures noise { result.noise.now ≡ noise.now }
+    {
+        Chip { bytes, fuse, noise }
+    }
+
+    // Its bytes, to be read.
+    pub fn bytes(&self) -> &[u8]
+        ensures { result.now ≡ self.now.bytes.now }
+    {
+        self.bytes
+    }
+
+    // The power is on, or it has gone.
+    fn lit(&self) -> Result<(), Halt>
+        ensures { Lit self.now.fuse.now result }
+    {
+        if *self.fuse == 0 {
+            return Err(Halt::Dark);
+        }
+        Ok(())
+    }
+
+    // Erases block b.
+    pub fn erase(&mut self, b: usize) -> Result<(), Halt>
+        requires { 4096 * b + 4096 ≤ length self.old.bytes.now }
+        ensures same { Same self.old self.new }
+        ensures right { Erases b self.old.noise.now self.old.bytes.now self.old.fuse.now self.new.bytes.now self.new.fuse.now result }
+    {
+        erase(self.bytes, b, self.fuse, self.noise);
+        self.lit()
+    }
+
+    // Writes page p, if it is blank.
+    pub fn write(&mut self, p: usize, new: &Page) -> Result<(), Halt>
+        requires { 256 * p + 256 ≤ length self.old.bytes.now }
+        ensures same { Same self.old self.new }
+        ensures right { Writes p new.now self.old.noise.now self.old.bytes.now self.old.fuse.now self.new.bytes.now self.new.fuse.now result }
+    {
+        if !blank_at(self.bytes(), p) {
+            return Err(Halt::Dirty);
+        }
+        write(self.bytes, p, new, self.fuse, self.noise);
+        self.lit()
+    }
+}
 
 // The bytes of the chip from byte `at` on, as many as `to` has.
 pub fn read(chip: &[u8], at: usize, to: &mut [u8])
