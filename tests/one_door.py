@@ -2,22 +2,26 @@
 """One door (docs/DECISIONS.md): outside chip::read, chip::erase and chip::write the libraries hand the chip on, and do nothing else with it.
 
 A contract sees a function's first state and its last. What happens between them is watched here, by text: in the libraries, but for the bodies of those three
-functions, and without comments, `ghost use` and contracts, every word `chip`, `fuse` and `noise` is one of these:
+functions and for the struct `Chip` with its methods, and without comments, `ghost use` and contracts, every word `chip`, `fuse` and `noise` is one of these:
 
-  chip   a parameter `&[u8]` or `&mut [u8]`; a whole argument; `chip.len()`; the crate, in `chip::name(`
+  chip   a parameter `&[u8]`, `&mut [u8]` or `&mut Chip`; a whole argument; `chip.len()`; a call of a method of `Chip`; `let mut chip = Chip::new(..)`, and then
+         `&mut chip` as a whole argument; the crate, in `chip::name(`
   fuse   a parameter `&u64` or `&mut u64`; a whole argument; `*fuse == 0` as a whole condition, or in brackets of its own
   noise  a parameter `&[u8]` or `&[u8; 4096]`; a whole argument
 
-A whole argument goes to a parameter of that name, of a function of the libraries; and such a parameter is given nothing else.
+A whole argument goes to a parameter of that name, of a function of the libraries; and such a parameter is given nothing else, but for a chip's bytes:
+`chip.bytes()`. The fields of `Chip` are private: outside the crate chip the language watches over them, and in it they are named in the methods alone.
 """
 import pathlib
 import re
 import sys
 
 ROOT = pathlib.Path(__file__).resolve().parent.parent
-TYPES = {"chip": ("&[u8]", "&mut[u8]"), "fuse": ("&u64", "&mutu64"), "noise": ("&[u8]", "&[u8;4096]")}
+TYPES = {"chip": ("&[u8]", "&mut[u8]", "&mutChip"), "fuse": ("&u64", "&mutu64"), "noise": ("&[u8]", "&[u8;4096]")}
 DOORS = ["erase", "read", "write"]
-SKIPPED = r"\s+|//[^\n]*|/\*.*?\*/|\bghost\s+use\b[^;]*;"
+METHODS = ["bytes", "erase", "new", "write"]  # of the struct Chip, those that are public
+LENT = [("&[u8]", "chip.bytes()"), ("&mutChip", "&mutchip")]  # what a parameter `chip` may be given besides a `chip`
+SKIPPED = r"\s+|//[^\n]*|/\*.*?\*/|\bghost\s+use\b[^;]*;|'[a-z_]\w*(?!')"  # a lifetime says nothing here
 EXPORTED = ["#", "[", "unsafe", "(", "no_mangle", ")", "]"]  # no code: what it marks has a name for C
 TOKEN = re.compile(rf"(?P<skip>{SKIPPED})|\"(?:\\.|[^\"\\])*\"|'(?:\\.|[^'\\])'|\w+|<<=|>>=|::|->|=>|[=!<>]=|&&|\|\||\.\.=?|[-+*/%^&|]=|.", re.S)
 
@@ -54,18 +58,31 @@ class Source:
             self.around[i] = stack[-1] if stack else None
             if t in ("(", "[", "{"):
                 stack.append(i)
-        # each function: its name, its parameters (name and type), whether it is public; where parameters of an allowed type stand; and the doors' bodies
-        self.functions, self.parameters, self.doors = [], set(), []
+        # each function: its name, its parameters (name and type), whether it is public; where parameters of an allowed type stand; the doors' bodies, with the
+        # struct `Chip`; and its methods
+        self.functions, self.parameters, self.doors, self.methods = [], set(), [], []
+        for i, t in enumerate(self.t):
+            if self.crate == "chip" and (t == "impl" or self.t[i : i + 2] == ["struct", "Chip"]):
+                self.doors.append((self.t.index("{", i), self.close[self.t.index("{", i)]))
+        impls = list(self.doors)
         for i, t in enumerate(self.t):
             if t == "fn":
                 o = self.t.index("(", i)
                 params = self.parts(o)
-                self.functions.append((self.t[i + 1], [(self.t[a], "".join(self.t[a + 2 : b])) for a, b in params], self.t[i - 1] == "pub"))
+                told = (self.t[i + 1], [(self.t[a], self.type_of(a, b)) for a, b in params], self.t[i - 1] == "pub")
+                if any(a < i < b for a, b in impls):
+                    self.methods.append(told)
+                    continue
+                self.functions.append(told)
                 if self.crate == "chip" and self.t[i - 1] == "pub" and self.t[i + 1] in DOORS:
                     end = self.t.index("fn", i + 1) if "fn" in self.t[i + 1 :] else len(self.t)
                     body = [k for k in range(o, end) if self.t[k] == "{" and self.around[k] is None][-1]  # the others are those of its contract
                     self.doors.append((body, self.close[body]))
-                self.parameters |= {a for a, b in params if "".join(self.t[a + 2 : b]) in TYPES.get(self.t[a], ())}
+                self.parameters |= {a for a, b in params if self.type_of(a, b) in TYPES.get(self.t[a], ())}
+
+    def type_of(self, a, b):
+        """Of the parameter from a to b the type, without lifetimes."""
+        return "".join(self.t[a + 2 : b]).replace("<>", "")
 
     def parts(self, o):
         """What the commas between the bracket o and its end divide: pairs of a start and an end."""
@@ -74,17 +91,21 @@ class Source:
 
     def called(self, o):
         """The parameters of each function that the call with the bracket o may mean; None where the libraries have none: a method, another crate's."""
-        if self.t[o - 2] in (".", "fn") or self.t[o - 4] == "::" and self.t[o - 2] == "::":
+        n = o - 1
+        if self.t[n] == ">" and "<" in self.t[:n]:  # name::<N>(
+            n = max(k for k in range(n) if self.t[k] == "<") - 2
+        if self.t[n - 1] in (".", "fn") or self.t[n - 3] == "::" and self.t[n - 1] == "::":
             return None
-        return functions.get((self.t[o - 3] if self.t[o - 2] == "::" else self.crate, self.t[o - 1]))
+        return functions.get((self.t[n - 2] if self.t[n - 1] == "::" else self.crate, self.t[n]))
 
     def is_argument(self, i):
-        """A whole argument, given to a parameter of its own name."""
+        """A whole argument, given to a parameter of its own name; or one of LENT."""
         o = self.around[i]
-        if o is None or self.t[o] != "(" or (i, i + 1) not in self.parts(o) or not self.called(o):
+        wholes = [(a, b) for a, b in self.parts(o) if a <= i < b] if o is not None and self.t[o] == "(" else []
+        if not wholes or not self.called(o):
             return False
-        place = self.parts(o).index((i, i + 1))
-        return all(place < len(p) and p[place][0] == self.t[i] for p in self.called(o))
+        place, said = self.parts(o).index(wholes[0]), "".join(self.t[wholes[0][0] : wholes[0][1]])
+        return all(place < len(p) and p[place][0] == self.t[i] and (said == self.t[i] or (p[place][1], said) in LENT) for p in self.called(o))
 
     def allowed(self, i):
         t, word = self.t, self.t[i]
@@ -94,7 +115,9 @@ class Source:
             return t[i - 1 : i + 3] == ["*", "fuse", "==", "0"] and (t[i - 2], t[i + 3]) in (("if", "{"), ("(", ")"))
         if word == "chip" and t[i + 1] == "::" and t[i - 1] != "::":
             return t[i - 1] == "use" or t[i + 3] == "("
-        return word == "chip" and t[i + 1 : i + 5] == [".", "len", "(", ")"]
+        if word == "chip" and t[i - 2 : i + 5] == ["let", "mut", "chip", "=", "Chip", "::", "new"]:
+            return True
+        return word == "chip" and (t[i + 1 : i + 5] == [".", "len", "(", ")"] or t[i + 1] == "." and t[i + 2] in METHODS[1:] and t[i + 3] == "(")
 
     def findings(self):
         t = self.t
@@ -104,15 +127,19 @@ class Source:
             here = f"{self.name}:{self.lines[i] if i < len(self.lines) else 0}"
             if word in TYPES and not self.allowed(i):
                 yield f"{here}: `{' '.join(t[max(0, i - 3) : i + 5]).strip()}`: {word} is used in another way"
+            if word == "Chip" and t[i + 1] == "::" and t[i - 4 : i] != ["let", "mut", "chip", "="] or word == "." and t[i + 1 : i + 3] == ["bytes", "("] and t[i - 1] != "chip":
+                yield f"{here}: `{' '.join(t[max(0, i - 3) : i + 5]).strip()}`: a Chip under another name"
+            if self.crate == "chip" and word == "." and t[i + 1] in ("bytes", "fuse", "noise") and t[i + 2] != "(":
+                yield f"{here}: `.{t[i + 1]}`: a field of Chip is named outside its methods"
             if word in ("unsafe", "static", "ref", "mod") and t[i - 2 : i + 5] != EXPORTED or word == "*" and t[i + 1] in ("mut", "const") or word == "extern" and t[i + 2] != "fn":
                 yield f"{here}: `{word} {t[i + 1]}`: this check can't follow it"
             if word == "use" and "as" in t[i : t.index(";", i)]:
                 yield f"{here}: `use`: another name is given"
-            if word == "(" and re.match(r"[a-z_]", t[i - 1]):
+            if word == "(" and re.match(r"[a-z_>]", t[i - 1]):
                 given = ["".join(t[a:b]) for a, b in self.parts(i)]
                 for p in self.called(i) or []:
-                    for name, arg in [(n, given[j] if j < len(given) else "") for j, (n, _) in enumerate(p)]:
-                        if name in TYPES and arg != name:
+                    for name, kind, arg in [(n, k, given[j] if j < len(given) else "") for j, (n, k) in enumerate(p)]:
+                        if name in TYPES and arg != name and (kind, arg) not in LENT:
                             yield f"{here}: `{t[i - 1]}`: its parameter {name} is given `{arg}`"
 
 
@@ -126,8 +153,13 @@ functions = {}
 for s in sources:
     for name, params, _ in s.functions:
         functions.setdefault((s.crate, name), []).append(params)
+    for name, params, _ in s.methods:
+        functions.setdefault(("Chip", name), []).append(params)
 bad = [line for s in sources for line in s.findings()]
 doors = sorted(n for s in sources if s.crate == "chip" for n, ps, public in s.functions if public and any("&mut" in t for _, t in ps))
+methods = sorted(n for s in sources for n, _, public in s.methods if public)
+if methods != METHODS:
+    bad.append(f"crates/chip: the public methods of Chip are {methods}, not {METHODS}")
 bad += [f"crates.txt: {name} stands on {dep}, which is the programs'" for name, deps in house for dep in deps.split() if dep in outside]
 if doors != DOORS:
     bad.append(f"crates/chip: the public functions that change something are {doors}, not {DOORS}")

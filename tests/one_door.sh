@@ -35,6 +35,16 @@ fn look(chip: &[u8], fuse: &u64, noise: &[u8]) -> usize
     chip::erase(chip, 0, fuse, noise,);
     look(chip, fuse, noise)
 }
+fn carry<'a>(chip: &'a mut Chip<'_>, p: usize) {
+    chip.write(p, &[255u8; 256]);
+    seek(chip.bytes(), p);
+    carry(chip, p);
+}
+fn seek(chip: &[u8], p: usize) {}
+fn call(chip: &mut [u8], fuse: &mut u64, noise: &[u8; 4096]) {
+    let mut chip = Chip::new(chip, fuse, noise);
+    carry(&mut chip, 0);
+}
 END
   python3 "$copy/tests/one_door.py" | grep '^crates/planted/src/lib.rt:'
 }
@@ -85,6 +95,14 @@ fn peek(chip: &[u8]) -> u8 ensures right { result ≡ first {n = 0} chip.now } {
 unsafe { work[0] = 1; }
 let x = work as *mut u32;
 use chip as other;
+let x = chip.bytes()[0];
+let part = chip.bytes();
+spoil(chip.bytes());
+carry(&mut other, 0);
+let mut other = Chip::new(chip, fuse, noise);
+let mut chip = Chip::new(work, fuse, noise);
+Chip::new(chip, &mut 5, noise);
+let chip = &mut chip;
 END
 rm -r "$copy/crates/planted"
 # a fourth function of the crate chip that looks at the chip or changes something; each is found in that crate
@@ -101,6 +119,9 @@ pub fn peek(chip: &[u8]) -> u8 { chip[0] }
 fn peek(chip: &[u8], p: usize) -> &[u8] { &chip[p..p + 1] }
 pub fn clear_all(to: &mut [u8]) { clear(to); }
 fn put_back(fuse: &mut u64) { *fuse = 5; }
+fn first(c: &Chip<'_>) -> u8 { c.bytes[0] }
+pub fn again(c: &mut Chip<'_>) { erase(c.bytes, 0, c.fuse, c.noise); }
+impl Chip<'_> { pub fn first(&self) -> u8 { self.bytes[0] } }
 END
 { cat crates/chip/src/lib.rt; echo 'pub fn first_at(chip: &[u8], p: usize) -> u8 { let page = page_at(chip, p); page[0] }'; } >"$door"
 python3 "$copy/tests/one_door.py" >/dev/null || { echo "a harmless function of the crate chip was refused"; exit 1; }

@@ -28,12 +28,16 @@ pub struct Chip<'a> {
 }
 
 impl<'a> Chip<'a> {
-    pub fn new(bytes: &'a mut [u8], fuse: &'a mut u64, noise: &'a [u8; 4096]) -> Chip<'a>
-        ensures bytes { (result.bytes.ghost_name ≡ bytes.entry.ghost_name) × (result.bytes.now ≡ bytes.old) }
+    pub fn new(chip: &'a mut [u8], fuse: &'a mut u64, noise: &'a [u8; 4096]) -> Chip<'a>
+        ensures bytes { (result.bytes.ghost_name ≡ chip.entry.ghost_name) × (result.bytes.now ≡ chip.old) }
         ensures fuse { (result.fuse.ghost_name ≡ fuse.entry.ghost_name) × (result.fuse.now ≡ fuse.old) }
         ensures noise { result.noise.now ≡ noise.now }
     {
-        Chip { bytes, fuse, noise }
+        Chip {
+            bytes: chip,
+            fuse,
+            noise,
+        }
     }
 
     // Its bytes, to be read.
