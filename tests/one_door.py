@@ -127,7 +127,7 @@ class Source:
             here = f"{self.name}:{self.lines[i] if i < len(self.lines) else 0}"
             if word in TYPES and not self.allowed(i):
                 yield f"{here}: `{' '.join(t[max(0, i - 3) : i + 5]).strip()}`: {word} is used in another way"
-            if word == "Chip" and t[i + 1] == "::" and t[i - 4 : i] != ["let", "mut", "chip", "="] or word == "." and t[i + 1 : i + 3] == ["bytes", "("] and t[i - 1] != "chip":
+            if word == "Chip" and t[i + 1] == "::" and t[i + 2] in METHODS and t[i - 4 : i] != ["let", "mut", "chip", "="] or word == "." and t[i + 1 : i + 3] == ["bytes", "("] and t[i - 1] != "chip":
                 yield f"{here}: `{' '.join(t[max(0, i - 3) : i + 5]).strip()}`: a Chip under another name"
             if self.crate == "chip" and word == "." and t[i + 1] in ("bytes", "fuse", "noise") and t[i + 2] != "(":
                 yield f"{here}: `.{t[i + 1]}`: a field of Chip is named outside its methods"
