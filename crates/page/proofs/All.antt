@@ -6,7 +6,10 @@ use Prim.Native.Nat.{ℕ, zero, suc, ◌+◌, ◌≤◌, ◌<◌}
 use native.Mathlib.Nat.{not-suc-le-zero, le_of_suc-le-suc, eq-or-lt_of_le}
 use native.Mathlib.Numerals.{add-one, unary_clauses}
 use native.Mathlib.Omega.{arith}
-use Rattle.page.specs.Page.{all}
+use mathlib.Core.List.{List, [], ◌∷◌}
+use lib.ListN.{length}
+use Rattle.std.specs.List.{list_all}
+use Rattle.page.specs.Page.{byte, all}
 
 pub and_true : (a b : Bool) → a ≡ true → b ≡ true → (a && b) ≡ true
 and_true true b p q = q
@@ -57,6 +60,26 @@ module _ (p : ℕ → Bool) where
   all_join m (suc n) h t =
       simp unary_clauses
       (and_true (all p (m + n)) (p (m + n)) (all_join m n h (and_left (all (λ i. p (m + i)) n) (p (m + n)) t)) (and_right (all (λ i. p (m + i)) n) (p (m + n)) t))
+
+-- from the front
+and_all : (b : Bool) → b ≡ (b && true)
+and_all true = refl
+and_all false = refl
+
+and_assoc : (a b c : Bool) → ((a && b) && c) ≡ (a && (b && c))
+and_assoc true b c = refl
+and_assoc false b c = refl
+
+all_front : (q : ℕ → Bool) (n : ℕ) → all q (suc n) ≡ (q zero && all (λ i. q (suc i)) n)
+unfolding all
+all_front q zero = and_all (q zero)
+all_front q (suc n) = ap (λ (b : Bool). b && q (suc n)) (all_front q n) ∙ and_assoc (q zero) (all (λ i. q (suc i)) n) (q (suc n))
+
+-- all elements of a list
+pub all_list : (p : ℕ → Bool) (xs : List ℕ) → list_all p xs ≡ all (λ i. p (byte xs i)) (length xs)
+unfolding all
+all_list p [] = refl
+all_list p (x ∷ xs) = ap (λ (b : Bool). p x && b) (all_list p xs) ∙ sym (all_front (λ i. p (byte (x ∷ xs) i)) (length xs))
 
 -- a run that fails is enough
 pub run_fails : (p : ℕ → Bool) (m n k : ℕ) → m + n ≤ k → all (λ i. p (m + i)) n ≡ false → all p k ≡ false

@@ -1,6 +1,6 @@
 // The log: which map a chip stands for, and what each step of the store does to it, whole and cut. This crate is theory: its definitions are in
-// specs/, in the order Key, Map, Log, Ring, Answers, Call, Wear, Timely, Opening; its laws in proofs/. It has no code but numbers, the next
-// block of the ring, and a test of keys.
+// specs/, in the order Key, Map, Log, Ring, Answers, Call, Wear, Timely, Opening; its laws in proofs/. It has no code but numbers, the head
+// of the ring, and a test of keys.
 #![tactic(auto)]
 
 ghost use Rattle.std.specs.Prelude.{◌≡◌, ◌+◌, ◌%◌, ◌≤◌, ◌<◌};
@@ -19,12 +19,48 @@ pub const FIRST: usize = 0;
 // How many it counts.
 pub const RECORDS: usize = 15;
 
-// The block k after block h of the ring.
-pub fn block_after(h: usize, k: usize, b: usize) -> usize
-    requires { (h < b) × (k ≤ b) × (b ≤ most_blocks) × (4 ≤ b) }
-    ensures { (result ≡ (h + k) % b) × (result < b) }
-{
-    (h + k) % b
+// The head of a ring: which block it is, and of how many.
+#[derive(Clone, Copy)]
+pub struct Head {
+    pub block: usize,
+    pub blocks: usize,
+}
+
+impl Head {
+    // The block k after the head.
+    pub fn after(self, k: usize) -> usize
+        requires { (self.block < self.blocks) × (k ≤ self.blocks) × (self.blocks ≤ most_blocks) × (4 ≤ self.blocks) }
+        ensures { (result ≡ (self.block + k) % self.blocks) × (result < self.blocks) }
+    {
+        (self.block + k) % self.blocks
+    }
+
+    // The spare block, which comes after the head.
+    pub fn spare(self) -> usize
+        requires { (self.block < self.blocks) × (self.blocks ≤ most_blocks) × (4 ≤ self.blocks) }
+        ensures { (result ≡ (self.block + 1) % self.blocks) × (result < self.blocks) }
+    {
+        self.after(1)
+    }
+
+    // The oldest block, which comes after the spare one.
+    pub fn oldest(self) -> usize
+        requires { (self.block < self.blocks) × (self.blocks ≤ most_blocks) × (4 ≤ self.blocks) }
+        ensures { (result ≡ (self.block + 2) % self.blocks) × (result < self.blocks) }
+    {
+        self.after(2)
+    }
+
+    // The head once the ring has gone on by a block: the spare block is the head.
+    pub fn next(self) -> Head
+        requires { (self.block < self.blocks) × (self.blocks ≤ most_blocks) × (4 ≤ self.blocks) }
+        ensures { (result.block ≡ (self.block + 1) % self.blocks) × (result.block < self.blocks) × (result.blocks ≡ self.blocks) }
+    {
+        Head {
+            block: self.spare(),
+            blocks: self.blocks,
+        }
+    }
 }
 
 // How many keys a store of b blocks holds.
@@ -39,18 +75,12 @@ pub fn room(b: usize) -> usize
 fn is_printable(x: u8) -> bool
     ensures { result ≡ printable x }
 {
-    (0x21 <= x) & (x <= 0x7E)
+    (0x21..=0x7E).contains(&x)
 }
 
 // Whether all bytes of a key can be printed: a put takes no others (request 9 of document 02).
 pub fn is_printed(key: &[u8]) -> bool
     ensures { result ≡ printed key.now }
 {
-    let mut ok = true;
-    let mut i = 0;
-    while i < key.len() {
-        ok = ok & is_printable(key[i]);
-        i += 1;
-    }
-    ok
+    key.iter().all(|x| is_printable(*x))
 }
