@@ -4,14 +4,16 @@ OUT/floatstore.ll, the chip in memory, and OUT/floatstore_driver.ll, the chip be
 
 1. Every line must be of a form that is listed here. Why these mean the same where a pointer has 32 bits: Rattle lays out its own data. A place on the stack is
 a number of bytes with an alignment, a field is reached by a number of bytes, a slice in a place is 16 bytes, its pointer at 0 and its length, an i64, at 8. A
-narrower pointer takes less of its 8 bytes, and whoever copies a place copies all of it, or fills it with zeros. So nothing changes as long as no pointer
-becomes a number or a number a pointer, no type has a size that LLVM takes from the target but ptr itself, no byte of a place is part of a pointer here and of a number
-there, pointers stand in such places only and not in what is lent, and whole, and whoever looks into a place with a pointer has it by name or was handed it, and
-there is no global data, no inline assembly, and no call but of the module's own functions, memmove, memset, trap and ctpop, which counts the bits of a number.
+narrower pointer takes less of its 8 bytes, and whoever copies a place copies all of it, or fills it with zeros. So nothing changes as long as no number
+becomes a pointer, and a pointer a number only to see whether it lies in the n bytes from another one on (APART), no type has a size that LLVM takes from the
+target but ptr itself, no byte of a place is part of a pointer here and of a number there, pointers stand in such places only and not in what is lent, and
+whole, and whoever looks into a place with a pointer has it by name or was handed it, and there is no global data, no inline assembly, and no call but of the
+module's own functions, memmove, memset, trap and ctpop, which counts the bits of a number.
 A number of bytes that is added to a pointer is an i64, of which 32 bits are taken: right for every object that lies in the memory.
 A function hands over a slice, or an enum with what it has, as two words: two parameters, or a pair as its answer. Of a pair no size matters but where one is
-loaded from a place, 8 bytes apart; where BITS is 32 it becomes two loads. A slice that is written out and has no byte begins at a datum of no byte, of which
-nothing can be read. An exported function makes 4096 of a null pointer, for a slice without an element: null is null on every target.
+loaded from a place, 8 bytes apart, or 1 where both are bytes; where BITS is 32 the first becomes two loads. A slice that is written out and has no byte
+begins at a datum of no byte, of which nothing can be read. An exported function makes 4096 of a null pointer, for a slice without an element: null is null on
+every target.
 
 2. The headers must declare what the module exports. Then what names x86-64 goes, and where BITS is 32 each exported function gets one of its name before it
 that takes its lengths as size_t, as the header says, and widens them.
@@ -29,22 +31,23 @@ V = r"(?:%[\w.]+|-?\d+|true|false)"
 P = r"%[\w.]+"
 I = r"i(?:1|8|16|32|64)"
 T = r"(?:i1|i8|i16|i32|i64|ptr)"
-PAIR = r"\{ (?:i8|ptr), i64 \}"  # what two registers hold: a slice, or an enum's number and what it has; never a place's type
+PAIR = r"\{ (?:i8, i8|(?:i8|ptr), i64) \}"  # what two registers hold: a slice, or an enum's number and what it has; never a place's type
 R = rf"(?:{T}|{PAIR})"
 EMPTY = r"@static\.\d+"  # a slice's beginning where it has no byte
-NAME = r'@(?:"[\w:<>, &\[\]]+"|(?!llvm)[\w.]+)'
+NAME = r"""@(?:"[\w:<>, &\[\]=+'{}#]+"|(?!llvm)[\w.]+)"""
 INSIDE = [
     rf"{P} = alloca (?:i8|i16|i32|i64|ptr|\[\d+ x i8\]), align [1248]",
     rf"{P} = load (?:i8|i16|i32|i64|ptr), ptr {P}, align [1248](?:, !\w+ !\d+)*",
     rf"store (?:i8|i16|i32|i64|ptr) {V}, ptr {P}, align [1248]",
     rf"store ptr {EMPTY}, ptr {P}, align 8",
-    rf"{P} = load {PAIR}, ptr {P}, align 8",
+    rf"{P} = load {PAIR}, ptr {P}, align [18]",
     rf"{P} = extractvalue {PAIR} {P}, [01]",
     rf"{P} = getelementptr (?:inbounds nuw )?i8, ptr {P}, i64 {V}",
     rf"{P} = (?:add|sub|mul|shl)(?: nuw)?(?: nsw)? {I} {V}, {V}",
     rf"{P} = (?:udiv|urem|sdiv|srem|lshr|ashr|and|or|xor) {I} {V}, {V}",
     rf"{P} = icmp (?:eq|ne|[us][lg][te]) {I} {V}, {V}",
     rf"{P} = icmp eq ptr {P}, null",  # the first line of LENT, and nowhere else
+    rf"{P} = ptrtoaddr ptr {P} to i64",  # the first two lines of APART, and nowhere else
     rf"{P} = (?:zext|sext|trunc)(?: nuw)?(?: nsw)? {I} {V} to {I}",
     rf"br label {P}",
     rf"br i1 {V}, label {P}, label {P}",
@@ -65,6 +68,13 @@ LENT = [
     rf"({P}) = zext i1 ({P}) to i64",
     rf"({P}) = mul i64 ({P}), 4096",
     rf"({P}) = getelementptr i8, ptr ({P}), i64 ({P})",
+]
+# whether a pointer lies in the n bytes from another one on: the same of addresses of 32 bits that are widened
+APART = [
+    rf"({P}) = ptrtoaddr ptr ({P}) to i64",
+    rf"({P}) = ptrtoaddr ptr ({P}) to i64",
+    rf"({P}) = sub i64 ({P}), ({P})",
+    rf"{P} = icmp ult i64 ({P}), {P}",
 ]
 PARAMETER = rf"{T}(?: noundef)?(?: zeroext)? {P}"
 DEFINE = rf"define (internal )?(?:noundef )?(?:zeroext )?(void|{R}) ({NAME})\(((?:{PARAMETER}(?:, {PARAMETER})*)?)\) #0 \{{"
@@ -116,6 +126,19 @@ class Function:
                     refuse(f"line {number} of the module has a form that isn't known here, with the three after it: {line}")
                 self.lent.add(self.lines[i + 3][0])
 
+    def find_apart(self):
+        """Each address is taken by APART, and no other line has it or the difference."""
+        known = set()
+        for i, (number, line) in enumerate(self.lines):
+            if " = ptrtoaddr " in line and number not in known:
+                m = [re.fullmatch(form, said) for form, (_, said) in zip(APART, self.lines[i : i + 4])]
+                if len(m) == 4 and all(m) and (m[2][2], m[2][3], m[3][1]) == (m[0][1], m[1][1], m[2][1]):
+                    words = [w for _, said in self.lines for w in re.findall(P, said)]
+                    if [words.count(m[k][1]) for k in range(3)] == [2, 2, 2]:
+                        known.add(self.lines[i + 1][0])
+                        continue
+                refuse(f"line {number} of the module has a form that isn't known here, with the three after it: {line}")
+
 
 def read_module(text):
     """The functions, once every line of the module has a known form."""
@@ -134,106 +157,171 @@ def read_module(text):
             if (m := re.search(rf"call (?:void|{R}) ({NAME})\(", line)) and m[1] not in names:
                 refuse(f"line {number} of the module calls a function that it doesn't have: {line}")
         f.find_lent()
+        f.find_apart()
     return functions
 
 
-def check_places(functions):
-    """Pointers are stored in places on the stack only; and each byte of a place is part of a pointer in all lines that take it or in none, whichever function
-    it is handed to, and so are the bytes that it is copied to."""
+class Pointers:
+    """Which pointers may lead into the same object, by one reading of the lines in any order: two do, if one is stored where the other is loaded, or handed to
+    its place. A pointer is (function, name), or what stands in an object, and leads into it some way in: (object, how far), where how far may be None, not
+    known. Of an object `inner` has, by how far in, the pointer that stands there; under None the only one, where not all distances are known."""
+
+    def __init__(self):
+        self.parent, self.inner = {}, {}
+
+    def find(self, a):
+        """The object that a leads into, named by one pointer, and how far into it."""
+        far = 0
+        while a in self.parent:
+            a, more = self.parent[a]
+            far = None if far is None or more is None else far + more
+        return a, None if None in self.inner.get(a, {}) else far
+
+    def object(self, a):
+        return self.find(a)[0]
+
+    def content(self, a, on=0):
+        """What stands where a leads to, or `on` bytes from there."""
+        a, far = self.find(a)
+        if far is None or on is None:
+            self.blur(a)
+            a, far = self.find(a)
+        at = None if None in self.inner.get(a, {}) else far + on
+        return self.inner.setdefault(a, {}).setdefault(at, ("content of", a, at))
+
+    def contents(self, a):
+        """All that is known to stand in the object that a leads into."""
+        return list(self.inner.get(self.object(a), {}).values())
+
+    def blur(self, a):
+        """Of the object a it isn't told apart any more what stands where."""
+        held = self.inner.setdefault(a, {})
+        if None not in held:
+            known = list(held.values())
+            held.clear()
+            held[None] = ("content of", a, None)
+            for b in known:
+                self.same(held[None], b)
+
+    def same(self, a, b, on=0):
+        """a leads to where b does, or `on` bytes from there."""
+        (a, i), (b, j) = self.find(a), self.find(b)
+        i, on = (None, None) if None in (i, j, on) else (i, j + on - i)
+        if a == b:
+            if on != 0:
+                self.blur(a)
+            return
+        if on is None:
+            self.blur(a)
+            self.blur(b)
+            a, b = self.object(a), self.object(b)
+            if a == b:
+                return
+        held = self.inner.pop(a, {})
+        self.parent[a] = b, on
+        if None in held:
+            self.blur(self.object(b))
+        for far, c in held.items():
+            self.same(c, self.content(b, None if far is None or on is None else far + on))
+
+
+def follow(functions, without=()):
+    """Which pointers lead into the same object, by all lines but those of some functions; and what the lines take of the objects and put there: a pointer, how
+    many bytes from there on (None where that isn't known), whether they are a pointer, and the line; and what they copy: to, from, how many bytes, the line."""
     by_name = {f.name: f for f in functions}
-    kinds = collections.defaultdict(dict)  # of a place: the bytes that are known, and whether each is part of a pointer
-    plain = {}  # places that have no pointer: a line takes a byte of them as part of a number, and which byte that is isn't known here
-    copies = []  # (a, b, n, why): n bytes from a on are as those from b on; a and b are (place, how far in)
-    holding, kept = [], {}  # the places that hold a pointer, and those whose own address is kept somewhere; and the lines that say so
-    handed = collections.defaultdict(list)  # of a parameter: the places that it is given; None is a pointer that isn't known to lead to one
-
-    def mark(place, far, is_pointer, why):
-        if kinds[place].setdefault(far, is_pointer) != is_pointer or (is_pointer and place in plain):
-            refuse(f"a byte is part of a pointer in one line of the module and of a number in another: {why}")
-
+    pointers, taken, copied = Pointers(), [], []
     for f in functions:
-        at = {name: ((f.name, name), 0) for kind, name in f.parameters if kind == "ptr"}  # of a pointer: the place that it points into, how far in
+        for number, line in f.lines if f.name not in without else []:
+            own = lambda name, f=f: (f.name, name)
+            why = number, f.name, line
 
-        def pointer(name, why):
-            """A pointer stands there."""
-            if name not in at or at[name][1] is None:
-                refuse(f"a pointer stands where the module has no place for one: {why}")
-            holding.append((at[name][0], why))
-            for i in range(8):
-                mark(at[name][0], at[name][1] + i, True, why)
+            def take(name, n, is_pointer, on=0):
+                taken.append((own(name), on, n, is_pointer, why))
 
-        def numbers(name, n, why, on=0):
-            """The n bytes from there on are parts of numbers."""
-            if name in at:
-                place, far = at[name]
-                if far is None or n is None:
-                    plain.setdefault(place, why)
-                for i in range(0 if far is None else n or 0):
-                    mark(place, far + on + i, False, why)
-
-        for number, line in f.lines:
-            why = f"line {number}, {line}"
-            if m := re.match(rf"({P}) = alloca", line):
-                at[m[1]] = (f.name, m[1]), 0
-            elif m := re.match(rf"({P}) = getelementptr .*?ptr ({P}), i64 ({V})$", line):
-                if m[2] in at:
-                    place, far = at[m[2]]
-                    at[m[1]] = place, far + int(m[3]) if far is not None and m[3].isdigit() else None
-            elif m := re.match(rf"(?:{P} = load|store) ptr(?: (?:{P}|{EMPTY}))?, ptr ({P})", line):
-                pointer(m[1], why)
-                if (m := re.match(rf"store ptr ({P})", line)) and m[1] in at:
-                    kept.setdefault(at[m[1]][0], why)
-            elif m := re.match(rf"{P} = load \{{ (i8|ptr), i64 \}}, ptr ({P})", line):
-                pointer(m[2], why) if m[1] == "ptr" else numbers(m[2], 1, why)
-                numbers(m[2], 8, why, on=8)
+            if m := re.match(rf"({P}) = getelementptr .*?ptr ({P}), i64 ({V})$", line):
+                lent = number in f.lent
+                pointers.same(own(m[1]), own(m[2]), 0 if lent else int(m[3]) if m[3].isdigit() else None)
+                if not lent:
+                    take(m[2], 0, False)
+            elif m := re.match(rf"({P}) = load (ptr|\{{ ptr, i64 \}}), ptr ({P}),", line):
+                pointers.same(own(m[1]), pointers.content(own(m[3])))
+                take(m[3], 8, True)
+                if m[2] != "ptr":
+                    take(m[3], 8, False, on=8)
+            elif m := re.match(rf"{P} = load \{{ i8, (i8|i64) \}}, ptr ({P}),", line):
+                take(m[2], 1, False)
+                take(m[2], *((1, False, 1) if m[1] == "i8" else (8, False, 8)))
+            elif m := re.match(rf"({P}) = extractvalue \{{ ptr, i64 \}} ({P}), 0", line):
+                pointers.same(own(m[1]), own(m[2]))
+            elif m := re.match(rf"store ptr ({P}|{EMPTY}), ptr ({P}),", line):
+                pointers.same(own(m[1]), pointers.content(own(m[2])))
+                take(m[2], 8, True)
             elif m := re.match(rf"(?:{P} = load|store) i(\d+)(?: {V})?, ptr ({P})", line):
-                numbers(m[2], int(m[1]) // 8, why)
-            elif m := re.match(rf"call void @llvm\.mem(?:move|set)\S*\(ptr ({P}), (\w+) ({V}), i64 ({V}),", line):
-                n = int(m[4]) if m[4].isdigit() else None
-                ends = [at[e] for e in (m[1], m[3]) if e in at and at[e][1] is not None]
-                if len(ends) == 2 and n is not None:
-                    copies.append((*ends, n, why))
-                elif (m[2], m[3]) == ("i8", "0") and n and n % 8 == 0 and (ends and ends[0][1] % 8 == 0):
-                    pass  # 8 bytes 0, or those that a narrower pointer takes of them, are a null pointer, and a number too
-                else:
-                    numbers(m[1], n, why)
-                    numbers(m[3], n, why)
-            elif m := re.match(rf"(?:{P} = )?call (?:void|{R}) ({NAME})\((.*)\)$", line):
-                for (kind, name), word in zip(by_name[m[1]].parameters, m[2].split(", ")):
-                    end = at.get(word.split()[-1])
+                take(m[2], int(m[1]) // 8, False)
+            elif m := re.match(rf"call void @llvm\.memmove\S*\(ptr ({P}), ptr ({P}), i64 ({V}),", line):
+                n = int(m[3]) if m[3].isdigit() else None
+                for on in range(0, n, 8) if n is not None else [None]:
+                    pointers.same(pointers.content(own(m[1]), on), pointers.content(own(m[2]), on))
+                copied.append((own(m[1]), own(m[2]), n, why))
+                for name in m[1], m[2]:
+                    take(name, 0 if n is not None else None, False)
+            elif m := re.match(rf"call void @llvm\.memset\S*\(ptr ({P}), i8 ({V}), i64 ({V}),", line):
+                n = int(m[3]) if m[3].isdigit() else None
+                # 8 bytes 0, or those that a narrower pointer takes of them, are a null pointer, and a number too
+                take(m[1], "zeros" if m[2] == "0" and n is not None and n % 8 == 0 else n, False)
+            elif m := re.match(rf"(?:({P}) = )?call (void|{R}) ({NAME})\((.*)\)$", line):
+                for (kind, name), word in zip(by_name[m[3]].parameters, m[4].split(", ")):
                     if kind == "ptr":
-                        handed[m[1], name].append(end and end[0])
-                        if end and end[1] is not None:
-                            copies.append((((m[1], name), 0), end, 2**64, why))
-                        elif end:
-                            plain.setdefault(end[0], why)
-            elif (m := re.match(rf"ret ptr ({P})", line)) and m[1] in at:
-                kept.setdefault(at[m[1]][0], why)
+                        pointers.same((m[3], name), own(word.split()[-1]))
+                if m[2] in ("ptr", "{ ptr, i64 }"):
+                    pointers.same((m[3], "its answer"), own(m[1]))
+            elif m := re.match(rf"ret (?:ptr|\{{ ptr, i64 \}}) ({P})", line):
+                pointers.same(own("its answer"), own(m[1]))
+    return pointers, taken, copied
+
+
+def check_places(functions):
+    """Pointers are stored in places on the stack only; and each byte of a place is part of a pointer in all lines that take it or in none, by whichever way the
+    line came to the place, and so are the bytes that it is copied to; and no part of a pointer is taken or copied without the rest."""
+    pointers, taken, copied = follow(functions)
+    kinds = collections.defaultdict(dict)  # of an object: the bytes that are known, and of which pointer each is part, by where that begins; None, of a number
+    plain = {}  # objects that have no pointer: a line takes a byte of them as part of a number, and which byte that is isn't known here
+    mixed = "a byte is part of a pointer in one line of the module and of a number in another"
+
+    def mark(place, far, of, why):
+        if kinds[place].setdefault(far, of) != of or of is not None and place in plain:
+            refuse(f"{mixed}: line {why[0]}, {why[2]}")
+
+    lent = {pointers.object((f.name, name)) for f in functions if not f.internal for kind, name in f.parameters if kind == "ptr"}
+    for p, on, n, is_pointer, why in taken:
+        place, far = pointers.find(p)
+        if is_pointer and (place in lent or far is None):
+            refuse(f"a pointer stands where the module has no place for one: line {why[0]}, {why[2]}")
+        if n == 0 or n == "zeros" and far is not None:
+            continue
+        if far is None or n in (None, "zeros"):
+            plain.setdefault(place, why)
+        else:
+            for i in range(n):
+                mark(place, far + on + i, far + on if is_pointer else None, why)
     known = None
     while known != (known := sum(map(len, kinds.values()))):
-        for a, b, n, why in copies:
-            for (x, i), (y, j) in ((a, b), (b, a)):
-                for far, is_pointer in list(kinds[x].items()):
+        for a, b, n, why in copied:
+            (x, i), (y, j) = pointers.find(a), pointers.find(b)
+            if n is None or i is None or j is None:
+                plain.setdefault(x, why)
+                plain.setdefault(y, why)
+                continue
+            for (x, i), (y, j) in (((x, i), (y, j)), ((y, j), (x, i))):
+                for far, of in list(kinds[x].items()):
                     if i <= far < i + n:
-                        mark(y, far - i + j, is_pointer, why)
+                        mark(y, far - i + j, None if of is None else of - i + j, why)
     for place, why in plain.items():
-        if any(kinds[place].values()):
-            refuse(f"a byte is part of a pointer in one line of the module and of a number in another: {why}")
+        if any(of is not None for of in kinds[place].values()):
+            refuse(f"{mixed}: line {why[0]}, {why[2]}")
     for place, bytes_of in kinds.items():
-        if any(is_pointer and not all(bytes_of.get(far // 8 * 8 + i) for i in range(8)) for far, is_pointer in bytes_of.items()):
-            refuse(f"a part of a pointer is taken, or a pointer where none begins: {place[1]} of {place[0]}")
-    # a parameter is a place on the stack if each call gives it one; what is lent from outside is none
-    parameters = {(f.name, name): f for f in functions for kind, name in f.parameters if kind == "ptr"}
-    lent, more = set(), {p for p, f in parameters.items() if not f.internal or None in handed[p] or not handed[p]}
-    while more:
-        lent |= more
-        more = {p for p in parameters if p not in lent and lent.intersection(handed[p])}
-    for place, why in holding:
-        if place in lent:
-            refuse(f"a pointer stands where the module has no place for one: {why}")
-    for place, why in kept.items():
-        if any(kinds[place].values()):
-            refuse(f"the address of a place with a pointer is kept: {why}")
+        if any(of is not None and not all(bytes_of.get(of + i, of + 8) == of for i in range(8)) for of in bytes_of.values()):
+            refuse(f"a part of a pointer is taken, or a pointer where none begins: {place}")
 
 
 def declared(path):
@@ -257,80 +345,26 @@ def check_headers(exported, header, driver):
             refuse(f"floatstore_driver.h and floatstore.h don't have the same {name}, but for fuse and noise")
 
 
-class Pointers:
-    """Which pointers may be the same, by one reading of the lines in any order: two are, if one is stored where the other is loaded, or handed to its place.
-    A pointer is (function, name), and stands for all that are the same; `inner` is what is stored where it points to."""
-
-    def __init__(self):
-        self.parent, self.inner = {}, {}
-
-    def find(self, a):
-        while a in self.parent:
-            a = self.parent[a]
-        return a
-
-    def content(self, a):
-        a = self.find(a)
-        return self.find(self.inner.setdefault(a, ("content of", a)))
-
-    def same(self, a, b):
-        a, b = self.find(a), self.find(b)
-        if a == b:
-            return
-        self.parent[a] = b
-        if a in self.inner:
-            inner = self.inner.pop(a)
-            self.same(self.inner.setdefault(b, inner), inner)
-
-
 def check_handed_on(functions, header):
     """The pointers chip and noise of the exported functions come to the three, and nothing else looks through them: see the top, 3."""
     by_name = {f.name: f for f in functions}
-    pointers, looks = Pointers(), []
-    for f in functions:
-        for number, line in f.lines if f.name not in SWAPPED else []:
-            own = lambda name: (f.name, name)
-            through = []
-            if m := re.match(rf"({P}) = getelementptr .*?ptr ({P}),", line):
-                through = [] if number in f.lent else [m[2]]
-                pointers.same(own(m[1]), own(m[2]))
-            elif m := re.match(rf"({P}) = load (?:ptr|\{{ ptr, i64 \}}), ptr ({P}),", line):
-                through = [m[2]]
-                pointers.same(own(m[1]), pointers.content(own(m[2])))
-            elif m := re.match(rf"({P}) = extractvalue \{{ ptr, i64 \}} ({P}), 0", line):
-                pointers.same(own(m[1]), own(m[2]))
-            elif m := re.match(rf"store ptr ({P}|{EMPTY}), ptr ({P}),", line):
-                through = [m[2]]
-                pointers.same(own(m[1]), pointers.content(own(m[2])))
-            elif m := re.match(rf"call void @llvm\.memmove\S*\(ptr ({P}), ptr ({P}),", line):
-                through = [m[1], m[2]]
-                pointers.same(pointers.content(own(m[1])), pointers.content(own(m[2])))
-            elif m := re.match(rf"(?:{P} = load|store|call void @llvm\.memset).*?[ (]ptr ({P})", line):
-                through = [m[1]]
-            elif m := re.match(rf"(?:({P}) = )?call (void|{R}) ({NAME})\((.*)\)$", line):
-                for (kind, name), word in zip(by_name[m[3]].parameters, m[4].split(", ")):
-                    if kind == "ptr":
-                        pointers.same((m[3], name), own(word.split()[-1]))
-                if m[2] in ("ptr", "{ ptr, i64 }"):
-                    pointers.same((m[3], "its answer"), own(m[1]))
-            elif m := re.match(rf"ret (?:ptr|\{{ ptr, i64 \}}) ({P})", line):
-                pointers.same(own("its answer"), own(m[1]))
-            looks += [(own(name), number, line) for name in through]
+    pointers, taken, _ = follow(functions, SWAPPED)
     lent = [(name, (f"@{f}", p[1])) for f in header for (_, name), p in zip(header[f], by_name[f"@{f}"].parameters)]
     for word in "chip", "noise":
         ours = [p for name, p in lent if name == word]
         for p in ours:
             pointers.same(p, ours[0])
-        one = pointers.find(ours[0])
-        for p, number, line in looks:
-            if pointers.find(p) == one:
-                refuse(f"line {number} of the module, in {p[0]}, looks through the pointer {word}: {line}")
-        if any(pointers.find(p) == one for name, p in lent if name != word):
+        one = pointers.object(ours[0])
+        for p, _, _, _, (number, name, line) in taken:
+            if pointers.object(p) == one:
+                refuse(f"line {number} of the module, in {name}, looks through the pointer {word}: {line}")
+        if any(pointers.object(p) == one for name, p in lent if name != word):
             refuse(f"the pointer {word} and another one that is lent come to the same place in the module")
         for f in SWAPPED:
             for i, (kind, name) in enumerate(by_name[f].parameters):
                 p = (f, name)
-                if kind == "ptr" and ((pointers.find(p) == one) != ((f, i) in PLACES[word]) or pointers.content(p) == one):
+                holds = any(pointers.object(c) == one for c in pointers.contents(p))
+                if kind == "ptr" and ((pointers.object(p) == one) != ((f, i) in PLACES[word]) or holds):
                     refuse(f"{f} isn't always given the {word}, or is given it as something else")
 
 
@@ -360,14 +394,16 @@ def swap(text, functions):
     return re.sub(r"@floatstore_(?!swapped_)(\w+)", r"@floatstore_module_\1", out)
 
 
-def split_pairs(text):
-    """The module's text in which each pair is loaded as its two parts: how far the second is from the first LLVM would take from the target."""
+def narrow(text):
+    """The module's text in which each pair with an i64 is loaded as its two parts: how far the second is from the first LLVM would take from the target. And an
+    address is widened."""
     parts = r"""  \1.a = load \3, ptr \4, align 8
   \1.at = getelementptr i8, ptr \4, i64 8
   \1.b = load i64, ptr \1.at, align 8
   \1.ab = insertvalue \2 poison, \3 \1.a, 0
   \1 = insertvalue \2 \1.ab, i64 \1.b, 1"""
-    return re.sub(rf"^  ({P}) = load (\{{ (i8|ptr), i64 \}}), ptr ({P}), align 8$", parts, text, flags=re.M)
+    text = re.sub(rf"^  ({P}) = load (\{{ (i8|ptr), i64 \}}), ptr ({P}), align 8$", parts, text, flags=re.M)
+    return re.sub(rf"^  ({P}) = ptrtoaddr ptr ({P}) to i64$", r"  \1 = ptrtoint ptr \2 to i64", text, flags=re.M)
 
 
 def widen(text, exported):
@@ -402,7 +438,7 @@ def main():
     check_handed_on(functions, header)
     simulated = "\n".join(text)
     if bits == "32":
-        simulated, swapped = widen(split_pairs(simulated), exported), split_pairs(swapped)
+        simulated, swapped = widen(narrow(simulated), exported), narrow(swapped)
     with open(os.path.join(out, "floatstore.ll"), "w") as f:
         f.write(for_target(simulated))
     with open(os.path.join(out, "floatstore_driver.ll"), "w") as f:
