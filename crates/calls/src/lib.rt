@@ -1,42 +1,134 @@
 // The calls of the store, as the programs try_* make them: all that they know of it.
 #![tactic(auto)]
 
+ghost use Rattle.std.specs.Prelude.{◌≡◌, EachIndex, IfOk, IfSome, slice_index, codes, false};
+ghost use Rattle.record.specs.Record.{record_of, record_page};
+ghost use Rattle.trying.specs.Noises.{noise_byte};
+ghost use Rattle.calls.specs.Lent.{PutOn, DeleteOn, StartOn, FormatOn, GetOn, CountOn, KeepsLengths, Makes, IsCut};
+
 use lent::Answer;
+use std::alloc::{AllocError, Global};
+use trying::Noise;
 
-// The calls that may change the chip or the area, by number.
-pub const PUT: usize = 0;
+// What the calls are lent: the chip and the work area; and what cuts them: after so many operations the power goes, and a cut leaves that noise.
+#[derive(Drop)]
+pub struct Bench {
+    pub chip: Vec<u8>,
+    pub work: Vec<u32>,
+    pub fuse: u64,
+    pub noise: [u8; 4096],
+}
 
-pub const DELETE: usize = 1;
+impl Bench {
+    pub fn put(&mut self, key: &[u8], value: &[u8]) -> Answer
+        ensures made { PutOn key.now value.now self.old self.new result }
+        ensures kept { KeepsLengths self.old self.new }
+    {
+        change::put(
+            &mut self.chip,
+            &mut self.work,
+            &mut self.fuse,
+            &self.noise,
+            key,
+            value,
+        )
+    }
 
-pub const START: usize = 2;
+    pub fn delete(&mut self, key: &[u8]) -> Answer
+        ensures made { DeleteOn key.now self.old self.new result }
+        ensures kept { KeepsLengths self.old self.new }
+    {
+        change::delete(
+            &mut self.chip,
+            &mut self.work,
+            &mut self.fuse,
+            &self.noise,
+            key,
+        )
+    }
 
-pub const FORMAT: usize = 3;
+    pub fn start(&mut self) -> Answer
+        ensures made { StartOn self.old self.new result }
+        ensures kept { KeepsLengths self.old self.new }
+    {
+        start::start(&self.chip, &mut self.work, &self.fuse)
+    }
 
-// One of them; not all look at the key and the value.
-pub fn call(
-    which: usize,
-    chip: &mut [u8],
-    work: &mut [u32],
-    fuse: &mut u64,
-    noise: &[u8; 4096],
-    key: &[u8],
-    value: &[u8],
-) -> Answer {
-    match which {
-        0 => change::put(chip, work, fuse, noise, key, value),
-        1 => change::delete(chip, work, fuse, noise, key),
-        2 => start::start(chip, work, fuse),
-        3 => format::format(chip, work, fuse, noise),
-        _ => Answer::Refused(0),
+    pub fn format(&mut self) -> Answer
+        ensures made { FormatOn self.old self.new result }
+        ensures kept { KeepsLengths self.old self.new }
+    {
+        format::format(&mut self.chip, &mut self.work, &mut self.fuse, &self.noise)
+    }
+
+    pub fn get(&self, key: &[u8], buffer: &mut [u8]) -> Answer
+        ensures { GetOn key.now self.now buffer.old buffer.new result }
+    {
+        fetch::get(&self.chip, &self.work, &self.fuse, key, buffer)
+    }
+
+    pub fn count(&self) -> Answer
+        ensures { CountOn self.now result }
+    {
+        fetch::count(&self.chip, &self.work, &self.fuse)
+    }
+
+    // So many puts of the key, up to the first that is refused: the value of put i is i in decimal.
+    fn put_often(&mut self, key: &[u8], times: u64) -> Answer
+        ensures { KeepsLengths self.old self.new }
+    {
+        for i in 0..times {
+            let mut digits = itoa::Buffer::new();
+            let answer = self.put(key, digits.format(i).as_bytes());
+            if let Answer::Refused(_) = answer {
+                return answer;
+            }
+        }
+        Answer::Done(0)
+    }
+
+    pub fn make(&mut self, call: &Call) -> Answer
+        ensures made { Makes call.now self.old self.new result }
+        ensures kept { KeepsLengths self.old self.new }
+    {
+        match call {
+            Call::Put(key, value) => self.put(key, value),
+            Call::Puts(key, times) => self.put_often(key, *times),
+            Call::Delete(key) => self.delete(key),
+            Call::Start => self.start(),
+            Call::Format => self.format(),
+        }
     }
 }
 
-pub fn get(chip: &[u8], work: &[u32], fuse: &u64, key: &[u8], buffer: &mut [u8]) -> Answer {
-    fetch::get(chip, work, fuse, key, buffer)
+// A call that may change the chip or the area, as a line of a script says it.
+#[derive(Drop)]
+pub enum Call {
+    Put(Vec<u8>, Vec<u8>),
+    // so many puts of the key, with the values 0, 1, 2, ..
+    Puts(Vec<u8>, u64),
+    Delete(Vec<u8>),
+    Start,
+    Format,
 }
 
-pub fn count(chip: &[u8], work: &[u32], fuse: &u64) -> Answer {
-    fetch::count(chip, work, fuse)
+impl Call {
+    // The call of a line: put KEY VALUE, puts KEY N, delete KEY, start or format.
+    pub fn read(alloc: Global, line: &[u8]) -> Result<Option<Call>, AllocError>
+        ensures { IfOk result (λ call. IfSome call IsCut) }
+    {
+        Ok(match trying::word(line, 0) {
+            b"put" => Some(Call::Put(
+                trying::bytes(alloc, line, 1)?,
+                trying::bytes(alloc, line, 2)?,
+            )),
+            b"puts" => Some(Call::Puts(trying::bytes(alloc, line, 1)?, trying::numeral(line, 2))),
+            b"delete" => Some(Call::Delete(trying::bytes(alloc, line, 1)?)),
+            b"start" => Some(Call::Start),
+            b"format" => Some(Call::Format),
+            _ => None,
+        })
+    }
 }
 
 // The refusal's number; 0 where the call is done.
@@ -55,49 +147,9 @@ pub fn amount(answer: Answer) -> usize {
     }
 }
 
-// So many puts of the key, up to the first that is refused: the value of put i is i in decimal.
-fn put_often(
-    chip: &mut [u8],
-    work: &mut [u32],
-    fuse: &mut u64,
-    noise: &[u8; 4096],
-    key: &[u8],
-    end: u64,
-) -> Answer {
-    let mut i: u64 = 0;
-    while i < end {
-        let mut digits = itoa::Buffer::new();
-        let value = digits.format(i).as_bytes();
-        let k = refusal(call(PUT, chip, work, fuse, noise, key, value));
-        if k != 0 {
-            return Answer::Refused(k);
-        }
-        i += 1;
-    }
-    Answer::Done(0)
-}
-
-// The call of a script's line: put KEY VALUE, delete KEY, start, format; or puts KEY N, which is N puts.
-pub fn make(
-    line: &[u8],
-    chip: &mut [u8],
-    work: &mut [u32],
-    fuse: &mut u64,
-    noise: &[u8; 4096],
-) -> Answer {
-    let mut key = [0u8; trying::LONGEST];
-    let k = trying::bytes(line, 1, &mut key);
-    let mut value = [0u8; trying::LONGEST];
-    let n = trying::bytes(line, 2, &mut value);
-    let which = trying::verb(b"put delete start format puts", line);
-    if which == 4 {
-        return put_often(chip, work, fuse, noise, &key[..k], trying::numeral(line, 2));
-    }
-    call(which, chip, work, fuse, noise, &key[..k], &value[..n])
-}
-
-// The noise of that number. The page that is forged or kept is the one of "put a 2".
-pub fn make_noise(which: usize, noise: &mut [u8; 4096]) {
-    let page = record::encode(false, b"a", b"2");
-    trying::make_noise(which, &page, noise);
+// The noise whose page, where it has one, is that of "put a 2".
+pub fn noise(which: Noise) -> [u8; 4096]
+    ensures { EachIndex result (λ i. slice_index result i ≡ noise_byte which (record_page (record_of false (codes "a") (codes "2"))) i) }
+{
+    which.bytes(&record::encode(false, b"a", b"2"))
 }

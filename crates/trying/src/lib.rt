@@ -1,35 +1,18 @@
-// What the programs try_* have in common: how they print, the lines and words of a script, the noises that they cut with, and pages of the old form, which the
-// store reads and no longer writes.
+// What the programs try_* have in common: the lines and words of a script, the noises that they cut with, pages of the old form, which the store reads and no
+// longer writes, and how they print.
 #![tactic(auto)]
 
+mod noise;
 mod words;
 
-ghost use Rattle.std.specs.Prelude.{◌≡◌, ◌≤◌, length};
+ghost use Rattle.std.specs.Prelude.{◌<◌};
 
-use std::io;
+pub use noise::{NOISES, Noise, Unnamed};
+use page::Page;
+use record::Kind;
 use std::io::Read;
-pub use words::{LONGEST, bytes, line, next, numeral, verb, word};
-
-// Writes the bytes to standard output.
-pub fn text(rt: &impl Print, s: &[u8]) -> io::Result<()> {
-    rt.write_all(s)
-}
-
-// Writes a number in decimal.
-pub fn number(rt: &impl Print, n: u64) -> io::Result<()> {
-    print!(rt; "{n}")
-}
-
-// Writes a number after its name.
-pub fn entry(rt: &impl Print, name: &[u8], n: u64) -> io::Result<()> {
-    text(rt, name)?;
-    number(rt, n)
-}
-
-// Writes a byte as two hexadecimal digits.
-pub fn byte(rt: &impl Print, b: u8) -> io::Result<()> {
-    print!(rt; "{b:02x}")
-}
+use std::{array, fmt, io};
+pub use words::{LONGEST, bytes, lines, numeral, word};
 
 // The most bytes of standard input that a program reads.
 const MOST_INPUT: u64 = 65536;
@@ -41,13 +24,9 @@ pub fn input(rt: &(impl Input + AllocGlobal)) -> io::Result<Vec<u8>> {
     Ok(script)
 }
 
-// A byte with all its bits flipped.
-fn flip(b: u8) -> u8 {
-    255 - b
-}
-
 // The page of the new form whose payload stands in the first 254 bytes of the buffer: behind it comes the number of its 0 bits.
-pub fn new_page(payload: [u8; 256]) -> [u8; 256] {
+#[tactic(auto, using(page::proofs::Filling::two_zeros))]
+pub fn new_page(payload: Page) -> Page {
     let mut page = payload;
     page[254] = 0;
     page[255] = 0;
@@ -55,104 +34,86 @@ pub fn new_page(payload: [u8; 256]) -> [u8; 256] {
     page
 }
 
+// Byte i of the first half of the page of the old form.
+fn old_byte(payload: &Page, i: usize) -> u8
+    requires { i < 128 }
+{
+    if i == 0 { 1 } else { payload[i] }
+}
+
 // The page of the old form whose payload stands in the first half of the buffer, but for byte 0, which is 1. Behind it comes the flipped copy.
-pub fn old_page(payload: &[u8]) -> [u8; 256]
-    requires { length payload.now ≡ 256 }
-{
-    let mut page = [0u8; 256];
-    page[0] = 1;
-    page[128] = 254;
-    let mut j = 1;
-    while j < 128 {
-        page[j] = payload[j];
-        page[128 + j] = flip(payload[j]);
-        j += 1;
-    }
-    page
-}
-
-// The page at a block's page 1, and else 255.
-fn kept_byte(page: &[u8; 256], i: usize) -> u8 {
-    if i / 256 == 1 {
-        return page[i % 256];
-    }
-    255
-}
-
-// Byte i of the noise: 0, all zeros; 1, all ones; 2, mixed; 3, forged: the page again and again, so that an erase leaves a block full of sound pages, and
-// sealed; 4, kept: the page at its place and ones elsewhere, so that an erase leaves it as it was.
-fn noise_byte(which: usize, page: &[u8; 256], i: usize) -> u8 {
-    match which {
-        0 => 0,
-        1 => 255,
-        2 => (i % 251) as u8,
-        3 => page[i % 256],
-        _ => kept_byte(page, i),
-    }
-}
-
-// The noise of that number, by the page.
-pub fn make_noise(which: usize, page: &[u8; 256], noise: &mut [u8]) {
-    let mut i = 0;
-    while i < noise.len() {
-        noise[i] = noise_byte(which, page, i);
-        i += 1;
-    }
-}
-
-// 1 if the bytes differ and it counts.
-fn unlike(a: u8, b: u8, counts: bool) -> u64
-    ensures { result ≤ 1 }
-{
-    if (a != b) & counts { 1 } else { 0 }
+pub fn old_page(payload: &Page) -> Page {
+    array::from_fn(|i| {
+        if i < 128 {
+            old_byte(payload, i)
+        } else {
+            !old_byte(payload, i - 128)
+        }
+    })
 }
 
 // How many bytes outside [from, to) the two chips differ in.
-pub fn changed(before: &[u8], after: &[u8], from: usize, to: usize) -> u64
-    requires { length before.now ≡ length after.now }
-{
-    let mut n: u64 = 0;
-    let mut i = 0;
-    while i < before.len() {
-        n += unlike(before[i], after[i], (i < from) | (to <= i));
-        i += 1;
+pub fn changed(before: &[u8], after: &[u8], from: usize, to: usize) -> u64 {
+    before
+        .iter()
+        .zip(after)
+        .enumerate()
+        .filter(|(i, (a, b))| (*i < from || to <= *i) && *a != *b)
+        .count() as u64
+}
+
+// What a page says: a value, a note, or nothing.
+#[derive(Clone, Copy)]
+pub struct Says(pub Option<Kind>);
+
+impl fmt::Display for Says {
+    fn fmt<W: fmt::Write>(&self, f: &mut fmt::Formatter<W>) -> fmt::Result {
+        f.write_str(match self.0 {
+            Some(Kind::Value) => "a value",
+            Some(Kind::Note) => "a note",
+            None => "nothing",
+        })
     }
-    n
 }
 
 // ---- a report of 512 numbers, 64 of each kind. Its rows are text, a row a line: the kind, the slot of the first number, how many numbers, and the name.
 
-fn print_number(rt: &impl Print, n: u64) -> io::Result<()> {
-    text(rt, b" ")?;
-    number(rt, n)
-}
-
-// The numbers of the slots from there to there.
-fn print_numbers(rt: &impl Print, tally: &[u64; 512], from: usize, to: usize) -> io::Result<()> {
-    for i in from..to {
-        print_number(rt, tally[i % 512])?;
-    }
-    Ok(())
-}
-
 // KIND SLOT N NAME, the name from column 8 on
 fn print_row(rt: &impl Print, row: &[u8], tally: &[u64; 512]) -> io::Result<()> {
-    if row.len() < 8 {
+    let Some(name) = row.get(8..) else {
         return Ok(());
-    }
+    };
+    rt.write_all(name)?;
     let kind = (numeral(row, 0) % 8) as usize;
     let from = 64 * kind + (numeral(row, 1) % 64) as usize;
-    text(rt, &row[8..])?;
-    print_numbers(rt, tally, from, from + numeral(row, 2) as usize)?;
-    text(rt, b"\n")
+    for i in from..from + numeral(row, 2) as usize {
+        print!(rt; " {}", tally[i % 512])?;
+    }
+    println!(rt)
 }
 
 // Writes the rows, each with its numbers.
 pub fn report(rt: &impl Print, rows: &[u8], tally: &[u64; 512]) -> io::Result<()> {
-    let mut at = 0;
-    while at < rows.len() {
-        print_row(rt, line(rows, at), tally)?;
-        at = next(rows, at);
+    for row in rows.split(|b| *b == b'\n') {
+        print_row(rt, row, tally)?;
     }
     Ok(())
+}
+
+#[cfg(test)]
+mod tests {
+    use super::*;
+    use std::test::Fail;
+
+    #[test]
+    fn a_line_is_read(rt: HostRuntime) -> Result<(), Fail> {
+        let alloc = rt.alloc();
+        let script = lines(alloc, b"put a%20b v*3\n\nget")?;
+        assert_eq!(rt; script.len(), 3);
+        assert_eq!(rt; script[1].len(), 0);
+        assert_eq!(rt; bytes(alloc, script[0], 1)?.as_slice(), b"a b".as_slice());
+        assert_eq!(rt; bytes(alloc, script[0], 2)?.as_slice(), b"vvv".as_slice());
+        assert_eq!(rt; bytes(alloc, script[2], 1)?.len(), 0);
+        Ok(())
+    }
 }
