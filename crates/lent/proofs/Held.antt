@@ -1,7 +1,7 @@
 -- What an area that holds says of its words, and of the map. Assumes nothing.
 use mathlib.Core.Path.{◌≡◌, sym, ap, ◌∙◌}
 use mathlib.Core.List.{List}
-use Prim.Native.Nat.{ℕ, ◌≤◌, ◌<◌}
+use Prim.Native.Nat.{ℕ, ◌≤◌}
 use native.Mathlib.Omega.{arith}
 use lib.ListN.{length, take, drop, get_or, length-drop}
 use lib.Seq.{length-take-le}
@@ -13,9 +13,6 @@ use Rattle.ring_log.proofs.RingLaws.{next_le}
 use Rattle.lent.specs.Area.{blocks_of, Sized, map_in, Holds}
 
 -- what an area that holds says of its words
-pub holds_head : (c w : List ℕ) → Holds c w → get_or w 1 0 < blocks_of c
-holds_head c w h = h.ready.ring.inside
-
 pub holds_next : (c w : List ℕ) → Holds c w → get_or w 2 0 ≤ 15
 holds_next c w h = omega (arith, h.ready.here, next_le (chip_of c) (get_or w 1 0) 15)
 

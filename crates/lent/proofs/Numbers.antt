@@ -1,19 +1,32 @@
 -- The refusals that need no search, as numbers: what the code tests, and what the answers of document 01 say. Assumes nothing.
-use mathlib.Core.Path.{◌≡◌, refl, sym, ap, ◌∙◌, subst}
+use mathlib.Core.Path.{◌≡◌, refl, sym, ◌∙◌, subst}
 use mathlib.Core.List.{List}
-use mathlib.Core.Bool.{Bool, true, false, not, ◌&&◌, ◌||◌, true≢false}
+use mathlib.Core.Bool.{Bool, true, false, not, ◌&&◌, ◌||◌}
 use Prim.Native.Nat.{ℕ, zero, suc, ◌+◌, ◌*◌, ◌/◌, ◌%◌, ◌≤◌, ◌<◌}
 use native.Mathlib.Omega.{arith}
 use lib.Dec.{eqb, leb}
 use lib.ListN.{length}
-use borrow.Author.Tests.{eq-eqb, ne_eqb, le-leb, lt-leb, leb-true, eqb-true, not-false}
+use borrow.Author.Tests.{eq-eqb, ne_eqb, le-leb, lt-leb, leb-true, eqb-true}
 use Rattle.page.proofs.All.{and_left, and_right}
 use Rattle.ring_log.specs.Ring.{most_blocks}
 use Rattle.ring_log.specs.Answers.{Lent, sizes_test, refused, refuse, lent, keyed}
 use Rattle.ring_log.specs.Answers.{Answer as Says}
-use Rattle.lent.specs.Area.{blocks_of, Sized, Checked, mark, lent_of, Holds}
+use Rattle.lent.specs.Area.{blocks_of, Sized, mark, lent_of}
 use Rattle.lent.specs.Tested.{number, lent_number, key_number, due, Tested}
-use Rattle.lent.specs.declared.Answer.TheVariants.{Done, Refused}
+use Rattle.lent.specs.Ended.{Done, Refused, refusal_number}
+use Rattle.lent.specs.declared.Refusal.{Refusal}
+use Rattle.lent.specs.declared.Refusal.TheVariants.{BadKey, LongValue, NoRoom, NoValue, BadSize, ShortBuffer, PowerGone, NotStarted}
+
+-- ---- each refusal has a number above 0
+pub refusal_some : (r : Refusal) → 0 < refusal_number r
+refusal_some BadKey = omega arith
+refusal_some LongValue = omega arith
+refusal_some NoRoom = omega arith
+refusal_some NoValue = omega arith
+refusal_some BadSize = omega arith
+refusal_some ShortBuffer = omega arith
+refusal_some PowerGone = omega arith
+refusal_some NotStarted = omega arith
 
 -- ---- the lengths
 
@@ -28,14 +41,6 @@ sizes_all c w e =
       leb-true _ _ (and_right (eqb (c % 4096) 0 && leb 4 (c / 4096) && leb (c / 4096) most_blocks) _ e),
     )
 
--- one of the tests fails
-pub sizes_fail : (c w : ℕ) → (c % 4096 ≡ 0 → 4 ≤ c / 4096 → c / 4096 ≤ most_blocks → 16 * (c / 4096) + 16 ≤ w → ⊥) → sizes_test c w ≡ false
-sizes_fail c w none = go (sizes_test c w) refl
-  where
-    go : (t : Bool) → sizes_test c w ≡ t → t ≡ false
-    go false e = refl
-    go true e = let s = sizes_all c w e in absurd (none s.0 s.1 s.2 s.3)
-
 -- all hold
 pub sizes_hold : (c w : List ℕ) → Sized c w → sizes_test (length c) (length w) ≡ true
 sizes_hold c w s =
@@ -47,19 +52,6 @@ pub sizes_sized : (c w : List ℕ) → sizes_test (length c) (length w) ≡ true
 sizes_sized c w e =
     let s = sizes_all (length c) (length w) e in
     record { whole = omega (arith, s.0); some_blocks = s.1; few_blocks = s.2; long = s.3 }
-
--- ---- 7, and then 8, as the code tests them: neither is due, so there is power, and the mark is 1
-pub seven_eight : (f m j k : ℕ) → j ≡ number 8 (not (eqb m 1)) 0 → k ≡ number 7 (eqb f 0 || eqb m 2) j → k ≡ 0 → (0 < f) × (m ≡ 1)
-seven_eight f m j k e d z = go (eqb f 0 || eqb m 2) (not (eqb m 1)) refl refl (sym (d ∙ ap (number 7 (eqb f 0 || eqb m 2)) e) ∙ z)
-  where
-    lit : (f : ℕ) (b : Bool) → (eqb f 0 || b) ≡ false → 0 < f
-    lit zero b e = absurd (true≢false e)
-    lit (suc f) b e = omega arith
-
-    go : (s t : Bool) → (eqb f 0 || eqb m 2) ≡ s → not (eqb m 1) ≡ t → number 7 s (number 8 t 0) ≡ 0 → (0 < f) × (m ≡ 1)
-    go true t p q x = absurd (omega arith)
-    go false true p q x = absurd (omega arith)
-    go false false p q x = (lit f (eqb m 2) p, eqb-true m 1 (not-false _ q))
 
 -- ---- WHAT IS LENT
 module _ (c : List ℕ) (f : ℕ) (w : List ℕ) (n : ℕ) where
@@ -75,30 +67,6 @@ module _ (c : List ℕ) (f : ℕ) (w : List ℕ) (n : ℕ) where
   due_none : Sized c w → 0 < f → mark w ≡ 1 → n ≡ lent_number (lent_of c f w) n
   due_none s p q = sym (by_tests true false true (sizes_hold c w s) (not_dark p q) (eq-eqb (mark w) 1 q))
 
-  -- a refusal that is due
-  tested_due : (k : ℕ) → 0 < k → k ≡ lent_number (lent_of c f w) n → Tested c f w n k
-  tested_due k l e = record { lit = λ z. absurd (omega arith); marked = λ z. absurd (omega arith); checked = λ z. absurd (omega arith); due = λ _. e }
-
-  pub tested_5 : sizes_test (length c) (length w) ≡ false → Tested c f w n 5
-  tested_5 p = tested_due 5 (omega arith) (sym (by_tests false _ _ p refl refl))
-
-  pub tested_lent : (j k : ℕ) → 0 < k → Sized c w → j ≡ number 8 (not (eqb (mark w) 1)) n → k ≡ number 7 (eqb f 0 || eqb (mark w) 2) j → Tested c f w n k
-  tested_lent j k l s e d = tested_due k l (d ∙ ap (number 7 (eqb f 0 || eqb (mark w) 2)) e ∙ sym (by_tests true _ _ (sizes_hold c w s) refl refl))
-
-  -- none is
-  pub tested_none : Checked c w → 0 < f → mark w ≡ 1 → Tested c f w n n
-  tested_none h p q = record { lit = λ _. p; marked = λ _. q; checked = λ _. h; due = λ _. due_none h.sized p q }
-
-  -- one that an area of this store never comes to
-  pub tested_never : (k : ℕ) → 0 < k → Sized c w → 0 < f → mark w ≡ 1 → (Holds c w → ⊥) → Tested c f w n k
-  tested_never k l s p q none =
-      record {
-        lit = λ z. absurd (omega arith);
-        marked = λ z. absurd (omega arith);
-        checked = λ z. absurd (omega arith);
-        due = λ h. absurd (none (h.holds s p q));
-      }
-
   -- none is due, and the number after it is answered
   pub tested_next : (k r : ℕ) → k ≡ 0 → Tested c f w 0 k → r ≡ n → Tested c f w n r
   tested_next k r z t e =
@@ -110,20 +78,20 @@ module _ (c : List ℕ) (f : ℕ) (w : List ℕ) (n : ℕ) where
       }
 
   -- a refusal of what is lent is due whatever would come after it
-  pub tested_first : (k : ℕ) → 0 < k → Tested c f w 0 k → Tested c f w n k
-  tested_first k l t =
+  pub tested_first : (r : Refusal) → Tested c f w 0 (refusal_number r) → Tested c f w n (refusal_number r)
+  tested_first r t =
       record {
-        lit = λ z. absurd (omega arith);
-        marked = λ z. absurd (omega arith);
-        checked = λ z. absurd (omega arith);
-        due = λ h. go (sizes_test (length c) (length w)) (eqb f 0 || eqb (mark w) 2) (eqb (mark w) 1) (t.due h);
+        lit = λ z. absurd (omega (arith, refusal_some r));
+        marked = λ z. absurd (omega (arith, refusal_some r));
+        checked = λ z. absurd (omega (arith, refusal_some r));
+        due = λ h. go (sizes_test (length c) (length w)) (eqb f 0 || eqb (mark w) 2) (eqb (mark w) 1) (refusal_number r) (refusal_some r) (t.due h);
       }
     where
-      go : (x y z : Bool) → k ≡ number 5 (not x) (number 7 y (number 8 (not z) 0)) → k ≡ number 5 (not x) (number 7 y (number 8 (not z) n))
-      go false y z e = e
-      go true true z e = e
-      go true false false e = e
-      go true false true e = absurd (omega arith)
+      go : (x y z : Bool) (k : ℕ) → 0 < k → k ≡ number 5 (not x) (number 7 y (number 8 (not z) 0)) → k ≡ number 5 (not x) (number 7 y (number 8 (not z) n))
+      go false y z k l e = e
+      go true true z k l e = e
+      go true false false k l e = e
+      go true false true k l e = absurd (omega arith)
 
 -- the same by another name of the number
 pub tested_of : (c : List ℕ) (f : ℕ) (w : List ℕ) (i j r : ℕ) → i ≡ j → Tested c f w i r → Tested c f w j r
@@ -133,12 +101,6 @@ tested_of c f w i j r e t = subst (λ (n : ℕ). Tested c f w n r) e t
 module _ (k : List ℕ) (n : ℕ) where
   by_length : (a b : Bool) → eqb (length k) 0 ≡ a → leb 17 (length k) ≡ b → key_number k n ≡ number 1 (a || b) n
   by_length a b p q = rw (p, q)
-
-  pub key_none : length k ≡ 0 → 1 ≡ key_number k n
-  key_none p = sym (by_length true _ (eq-eqb (length k) 0 p) refl)
-
-  pub key_long : 0 < length k → 16 < length k → 1 ≡ key_number k n
-  key_long p q = sym (by_length false true (ne_eqb (length k) 0 (λ e. omega arith)) (le-leb 17 (length k) (omega arith)))
 
   pub key_fits : 0 < length k → length k ≤ 16 → n ≡ key_number k n
   key_fits p q = sym (by_length false false (ne_eqb (length k) 0 (λ e. omega arith)) (lt-leb 17 (length k) (omega arith)))

@@ -1,2 +1,3 @@
 pub mod Area
+pub mod Ended
 pub mod Tested
