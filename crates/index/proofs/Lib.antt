@@ -1,4 +1,4 @@
-pub mod Shift
 pub mod Search
 pub mod Rows
 pub mod Values
+pub mod Shift

@@ -2,10 +2,13 @@
 use mathlib.Core.Path.{◌≡◌, refl, sym, ◌∙◌, subst}
 use mathlib.Core.Logic.{◌⊎◌, inl, inr}
 use mathlib.Core.List.{List, [], ◌∷◌, map}
-use Prim.Native.Nat.{ℕ, zero, suc, ◌+◌, ◌/◌, ◌≤◌, ◌<◌}
+use Prim.Native.Nat.{ℕ, zero, suc, ◌+◌, ◌/◌, ◌≤◌, ◌<◌, min}
 use native.Mathlib.Nat.{le_of_suc-le-suc, not-suc-le-zero, eq-or-lt_of_le}
 use native.Mathlib.Omega.{arith}
-use lib.ListN.{length, get_or, length-map}
+use lib.ListN.{length, take, get_or, length-map}
+use Rattle.std.specs.Ordering.{nat_cmp}
+use Rattle.std.proofs.lemmas.Cmp.{ranked, by_ranked}
+use Rattle.ring_log.proofs.KeyPlaces.{≺_at, ≺_end, ≡_end}
 use Rattle.record.specs.Record.{key_at}
 use Rattle.ring_log.specs.Key.{Key, ◌≺◌}
 use Rattle.ring_log.proofs.KeyLaws.{≺_trans}
@@ -14,6 +17,22 @@ use Rattle.index.specs.Answers.{ComparedBy, Compared, Finds}
 use Rattle.std.specs.declared.cmp.Ordering.{Ordering}
 use Rattle.std.specs.declared.cmp.Ordering.TheVariants.{Less, Equal, Greater}
 use Rattle.std.specs.Prelude.{Ok, Err}
+
+-- the first i bytes agree, and bytes i, x and y, don't
+pub differ : (a b : Key) (i x y : ℕ) (r : Ordering) → take i a ≡ take i b → i < length a → i < length b → x ≡ get_or a i 0 → y ≡ get_or b i 0 → (x ≡ y → ⊥) → r ≡ nat_cmp x y → Compared a b r
+differ a b i x y r e h k p q n w =
+    by_ranked (x < y) (x ≡ y) (y < x) r (ranked x y r w)
+    (λ u l. record { says = subst (ComparedBy a b) (sym u) (≺_at a b i e h k (omega arith)) })
+    (λ u l. absurd (n l))
+    (λ u l. record { says = subst (ComparedBy a b) (sym u) (≺_at b a i (sym e) k h (omega arith)) })
+
+-- they agree as far as the shorter one goes
+pub ended : (a b : Key) (i : ℕ) (r : Ordering) → take i a ≡ take i b → i ≡ min (length a) (length b) → r ≡ nat_cmp (length a) (length b) → Compared a b r
+ended a b i r e h w =
+    by_ranked (length a < length b) (length a ≡ length b) (length b < length a) r (ranked (length a) (length b) r w)
+    (λ u l. record { says = subst (ComparedBy a b) (sym u) (≺_end a b i e (omega arith) (omega arith)) })
+    (λ u l. record { says = subst (ComparedBy a b) (sym u) (≡_end a b i e (omega arith) (omega arith)) })
+    (λ u l. record { says = subst (ComparedBy a b) (sym u) (≺_end b a i (sym e) (omega arith) (omega arith)) })
 
 nth_map : (f : ℕ → Key) (ps : List ℕ) (i : ℕ) → i < length ps → get_or (map f ps) i [] ≡ f (get_or ps i 0)
 nth_map f [] i h = absurd (not-suc-le-zero h)

@@ -10,28 +10,16 @@ ghost use Rattle.index.specs.Answers.{Compared, Within, Finds, put_at, take_out}
 use std::cmp::Ordering;
 
 // Two keys: byte by byte, a shorter key before its longer continuations.
+#[tactic(auto, using(crate::proofs::Search::differ, crate::proofs::Search::ended))]
 pub fn compare(a: &[u8], b: &[u8]) -> Ordering
     ensures { Compared a.now b.now result }
 {
-    let mut i = 0;
-    while i < a.len() {
-        if b.len() <= i {
-            return Ordering::Greater;
+    for (x, y) in a.iter().zip(b) {
+        if x != y {
+            return x.cmp(y);
         }
-        let x = a[i];
-        let y = b[i];
-        if x < y {
-            return Ordering::Less;
-        }
-        if y < x {
-            return Ordering::Greater;
-        }
-        i += 1;
     }
-    if i < b.len() {
-        return Ordering::Less;
-    }
-    Ordering::Equal
+    a.len().cmp(&b.len())
 }
 
 // How the key on page p stands to a key. Of the page the beginning is read, 32 bytes.
@@ -49,6 +37,7 @@ pub fn find(chip: &[u8], index: &[u32], key: &[u8]) -> Result<usize, usize>
     ensures within { Within (length index.now) result }
     ensures right { Ordered chip.now index.now → Finds (keys_of chip.now index.now) key.now result }
 {
+    // no binary_search_by: it looks at other entries, so that on areas whose entries are in no order try_wild would print other numbers
     let pages = chip.len() / 256;
     let mut lo = 0;
     let mut hi = index.len();
@@ -73,32 +62,8 @@ pub fn find(chip: &[u8], index: &[u32], key: &[u8]) -> Result<usize, usize>
     Err(lo)
 }
 
-// x comes to stand at pos among the first n entries.
-fn insert(index: &mut [u32], n: usize, pos: usize, x: u32)
-    requires { (pos ≤ n) × (n < length index.old) }
-    ensures { index.new ≡ insert_at pos x (take n index.old) ++ drop (n + 1) index.old }
-{
-    let mut i = n;
-    while pos < i {
-        index[i] = index[i - 1];
-        i -= 1;
-    }
-    index[pos] = x;
-}
-
-// The entry at pos goes out of the first n.
-fn remove(index: &mut [u32], n: usize, pos: usize)
-    requires { (pos < n) × (n ≤ length index.old) }
-    ensures { index.new ≡ remove_at pos (take n index.old) ++ drop (n - 1) index.old }
-{
-    let mut j = pos;
-    while j + 1 < n {
-        index[j] = index[j + 1];
-        j += 1;
-    }
-}
-
 // Page x for the key that was found or missed. Answers how many entries there are now.
+#[tactic(auto, using(crate::proofs::Shift::put))]
 pub fn put_in(index: &mut [u32], n: usize, found: Result<usize, usize>, x: u32) -> usize
     requires { (n < length index.old) × Within n found }
     ensures within { (n ≤ result) × (result ≤ n + 1) }
@@ -109,14 +74,16 @@ pub fn put_in(index: &mut [u32], n: usize, found: Result<usize, usize>, x: u32) 
             index[i] = x;
             n
         }
-        Err(i) => {
-            insert(index, n, i, x);
+        Err(j) => {
+            index.copy_within(j..n, j + 1);
+            index[j] = x;
             n + 1
         }
     }
 }
 
 // The page of the key that was found goes out. Answers how many entries there are now.
+#[tactic(auto, using(crate::proofs::Shift::taken))]
 pub fn take_out(index: &mut [u32], n: usize, found: Result<usize, usize>) -> usize
     requires { (n ≤ length index.old) × Within n found }
     ensures within { (result ≤ n) × (n ≤ result + 1) }
@@ -124,7 +91,7 @@ pub fn take_out(index: &mut [u32], n: usize, found: Result<usize, usize>) -> usi
 {
     match found {
         Ok(i) => {
-            remove(index, n, i);
+            index.copy_within(i + 1..n, i);
             n - 1
         }
         Err(_) => n,
