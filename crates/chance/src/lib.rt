@@ -1,218 +1,285 @@
-// Chance: random pages, chips of four blocks and work areas for them.
+// Chance: dice, and what they make: pages, chips of four blocks and work areas for them.
 #![tactic(auto)]
 
-ghost use Rattle.std.specs.Prelude.{◌+◌, ◌*◌, ◌≤◌, ◌<◌, length};
+ghost use Rattle.std.specs.Prelude.{◌≡◌, ◌+◌, ◌*◌, ◌/◌, ◌%◌, ◌^◌, ◌≤◌, ◌<◌};
+
+use page::Page;
+use ring_log::Head;
+use std::array;
 
 // ---- random numbers
 
-// The next random number, below 32768.
-pub fn roll(x: &mut u64) -> u64
-    ensures { result < 32768 }
-{
-    let y = (*x % 2147483648 * 1103515245 + 12345) % 2147483648;
-    *x = y;
-    y / 65536
+// Dice, by the number that the next roll is made of.
+#[derive(Drop)]
+pub struct Dice {
+    pub seed: u64,
 }
 
-pub fn random_byte(x: &mut u64) -> u8 {
-    (roll(x) % 256) as u8
-}
+impl Dice {
+    // The next random number, below 32768.
+    pub fn roll(&mut self) -> u64
+        ensures turned { self.new.seed ≡ (self.old.seed % 2 ^ 31 * 1103515245 + 12345) % 2 ^ 31 }
+        ensures rolled { result ≡ self.new.seed / 65536 }
+        ensures small { result < 32768 }
+    {
+        self.seed = (self.seed % 2147483648 * 1103515245 + 12345) % 2147483648;
+        self.seed / 65536
+    }
 
-// One of the 24 keys.
-pub fn random_key(x: &mut u64) -> u8 {
-    (97 + roll(x) % 24) as u8
+    // The next one, as a number below n.
+    pub fn below(&mut self, n: u64) -> u64
+        requires { 0 < n }
+        ensures { result < n }
+    {
+        self.roll() % n
+    }
+
+    pub fn byte(&mut self) -> u8 {
+        self.below(256) as u8
+    }
+
+    // One of the 24 keys.
+    pub fn key(&mut self) -> u8
+        ensures { (97 ≤ result) × (result < 121) }
+    {
+        b'a' + self.below(24) as u8
+    }
+
+    // A place below n.
+    fn place(&mut self, n: u64) -> usize
+        requires { 0 < n }
+        ensures { result < n }
+    {
+        self.below(n) as usize
+    }
+
+    // Whether it is the one roll in n.
+    fn is_one_in(&mut self, n: u64) -> bool
+        requires { 0 < n }
+    {
+        self.below(n) == 0
+    }
 }
 
 // ---- pages
 
-fn random_page(x: &mut u64) -> [u8; 256] {
-    let mut page = [0u8; 256];
-    let mut i = 0;
-    while i < 256 {
-        page[i] = random_byte(x);
-        i += 1;
-    }
-    page
+// What may stand on a page: random bytes, nothing, a record, a seal, an odd page or a spoilt one.
+#[derive(Clone, Copy)]
+enum Sort {
+    Random,
+    Blank,
+    Record,
+    Seal,
+    Odd,
+    Spoilt,
 }
 
-// The page of the payload: in the old form where byte 0 says so, and else with a count.
-fn page_of(payload: [u8; 256]) -> [u8; 256] {
-    if payload[0] == 1 {
-        return trying::old_page(&payload);
+impl Sort {
+    // A page of this sort.
+    fn page(self, dice: &mut Dice) -> Page {
+        match self {
+            Sort::Random => array::from_fn(|_| dice.byte()),
+            Sort::Blank => [255u8; 256],
+            Sort::Record => record_page(dice),
+            Sort::Seal => record::seal(),
+            Sort::Odd => odd_page(dice),
+            Sort::Spoilt => spoilt_page(dice),
+        }
     }
-    trying::new_page(payload)
 }
 
 // The page of a note, or of a value, of one of the keys, in one of the forms.
-fn record_page(x: &mut u64) -> [u8; 256] {
-    let note = roll(x) % 4 == 0;
-    let key = [random_key(x)];
-    let value = [random_byte(x)];
+fn record_page(dice: &mut Dice) -> Page {
+    let note = dice.is_one_in(4);
+    let key = [dice.key()];
+    let value = [dice.byte()];
     let page = record::encode(note, &key, &value);
-    if roll(x) % 2 == 0 {
-        return trying::old_page(&page);
+    if dice.is_one_in(2) {
+        trying::old_page(&page)
+    } else {
+        page
     }
-    page
 }
 
-// 0, or up to one more than the length of any value.
-fn odd_length(x: &mut u64) -> u8 {
-    let v = roll(x) % 444;
-    if v < 222 { 0 } else { (v - 222) as u8 }
-}
-
-// A page, sound but for its form, whose form, kind and lengths may be those of a record or not.
-fn odd_page(x: &mut u64) -> [u8; 256] {
+// A page, sound but for its form, whose form, kind and lengths may be those of a record or not. The length of its value is 0, or up to one more than any has.
+fn odd_page(dice: &mut Dice) -> Page {
     let mut page = [0u8; 256];
-    page[0] = (1 + roll(x) % 3) as u8;
-    page[1] = (1 + roll(x) % 3) as u8;
-    page[2] = (roll(x) % 18) as u8;
-    page[3] = odd_length(x);
-    page[16] = random_key(x);
-    page[32] = random_byte(x);
-    page_of(page)
+    page[0] = 1 + dice.below(3) as u8;
+    page[1] = 1 + dice.below(3) as u8;
+    page[2] = dice.below(18) as u8;
+    page[3] = dice.below(444).saturating_sub(222) as u8;
+    page[16] = dice.key();
+    page[32] = dice.byte();
+    if page[0] == 1 {
+        trying::old_page(&page)
+    } else {
+        trying::new_page(page)
+    }
 }
 
 // The page of a record, with a random byte somewhere.
-fn spoilt_page(x: &mut u64) -> [u8; 256] {
-    let mut page = record_page(x);
-    let i = (roll(x) % 256) as usize;
-    page[i] = random_byte(x);
+fn spoilt_page(dice: &mut Dice) -> Page {
+    let mut page = record_page(dice);
+    let i = dice.place(256);
+    page[i] = dice.byte();
     page
-}
-
-// 0, a random page; 1, a blank one; 2, a record; 3, a seal; 4, an odd page; else a spoilt one.
-fn make_page(what: u64, x: &mut u64) -> [u8; 256] {
-    match what {
-        0 => random_page(x),
-        1 => [255u8; 256],
-        2 => record_page(x),
-        3 => record::seal(),
-        4 => odd_page(x),
-        _ => spoilt_page(x),
-    }
 }
 
 // ---- chips
 
-// Page p of the chip is one of that kind.
-fn lay(chip: &mut [u8], p: usize, what: u64, x: &mut u64)
-    requires { 256 * p + 256 ≤ length chip.old }
-{
-    let page = make_page(what, x);
-    chip[256 * p..256 * p + 256].copy_from_slice(&page);
+// The kinds of chips: random bytes; random pages; a ring of random pages; a first round, in a quarter of them with a page astray.
+#[derive(Clone, Copy)]
+pub enum ChipKind {
+    Bytes,
+    Pages,
+    Ring,
+    FirstRound,
 }
 
-// What stands in a place: most often a record, or blank.
-fn any_place(x: &mut u64) -> u64 {
-    let r = roll(x) % 16;
-    if r < 9 {
-        return 2;
-    }
-    if r < 13 {
-        return 1;
-    }
-    if r == 13 {
-        return 0;
-    }
-    r - 10
+// How a chip is laid out: a ring by its head; a first round by how many pages are written, and by the page that is astray.
+#[derive(Drop)]
+struct Plan {
+    kind: ChipKind,
+    head: Head,
+    written: usize,
+    stray: usize,
+    ghost head_in_ring: { (head.block < 4) × (head.blocks ≡ 4) },
 }
 
-// What stands on a page 15: blank, a seal or anything.
-fn any_seal(x: &mut u64) -> u64 {
-    let r = roll(x) % 4;
-    match r {
-        0 => 0,
-        1 => 3,
-        _ => 1,
+impl Plan {
+    fn new(kind: ChipKind, dice: &mut Dice) -> Self {
+        Plan {
+            kind,
+            head: Head {
+                block: dice.place(4),
+                blocks: 4,
+            },
+            written: dice.place(64),
+            stray: dice.place(256),
+        }
     }
-}
 
-// What stands on page 15 of a block of a ring with the head h.
-fn ring_seal(h: usize, block: usize, x: &mut u64) -> u64
-    requires { h < 4 }
-{
-    if block == h {
-        return 1;
+    // What stands on page p.
+    fn sort(&self, p: usize, dice: &mut Dice) -> Sort {
+        match self.kind {
+            ChipKind::Bytes => Sort::Random,
+            ChipKind::FirstRound => self.sort_in_round(p),
+            _ if p % 16 < 15 => any_sort(dice),
+            ChipKind::Pages => any_seal(dice),
+            ChipKind::Ring => self.ring_seal(p / 16, dice),
+        }
     }
-    if block == (h + 1) % 4 {
-        return any_seal(x);
-    }
-    if roll(x) % 4 == 0 { 0 } else { 3 }
-}
 
-// What stands on page p of a first round with m pages written and one astray.
-fn first_round(m: usize, stray: usize, p: usize) -> u64 {
-    if p == stray {
-        return 2;
+    // What stands on page p of a first round.
+    fn sort_in_round(&self, p: usize) -> Sort {
+        if p == self.stray {
+            Sort::Record
+        } else if self.written <= p {
+            Sort::Blank
+        } else if p % 16 == 15 {
+            Sort::Seal
+        } else {
+            Sort::Record
+        }
     }
-    if m <= p {
-        return 1;
-    }
-    if p % 16 == 15 { 3 } else { 2 }
-}
 
-// What stands on page p. The kinds of chips: 0, random bytes; 1, random pages; 2, a ring; 3, a first round, in a quarter of them with a page astray.
-fn choose(kind: usize, h: usize, m: usize, stray: usize, p: usize, x: &mut u64) -> u64
-    requires { h < 4 }
-{
-    if kind == 0 {
-        return 0;
-    }
-    if kind == 3 {
-        return first_round(m, stray, p);
-    }
-    if p % 16 < 15 {
-        return any_place(x);
-    }
-    if kind == 1 {
-        any_seal(x)
-    } else {
-        ring_seal(h, p / 16, x)
+    // What stands on page 15 of a block of a ring.
+    fn ring_seal(&self, block: usize, dice: &mut Dice) -> Sort {
+        if block == self.head.block {
+            Sort::Blank
+        } else if block == self.head.spare() {
+            any_seal(dice)
+        } else if dice.is_one_in(4) {
+            Sort::Random
+        } else {
+            Sort::Seal
+        }
     }
 }
 
-pub fn make_chip(chip: &mut [u8; 16384], kind: usize, x: &mut u64) {
-    let h = (roll(x) % 4) as usize;
-    let m = (roll(x) % 64) as usize;
-    let stray = (roll(x) % 256) as usize;
-    let mut p = 0;
-    while p < 64 {
-        lay(chip, p, choose(kind, h, m, stray, p, x), x);
-        p += 1;
+// What stands on a page: most often a record, or nothing.
+fn any_sort(dice: &mut Dice) -> Sort {
+    match dice.below(16) {
+        0..=8 => Sort::Record,
+        9..=12 => Sort::Blank,
+        13 => Sort::Random,
+        14 => Sort::Odd,
+        _ => Sort::Spoilt,
+    }
+}
+
+// What stands on a page 15: nothing, a seal or anything.
+fn any_seal(dice: &mut Dice) -> Sort {
+    match dice.below(4) {
+        0 => Sort::Random,
+        1 => Sort::Seal,
+        _ => Sort::Blank,
+    }
+}
+
+// The chip becomes one of that kind.
+pub fn make_chip(chip: &mut [u8], kind: ChipKind, dice: &mut Dice) {
+    let plan = Plan::new(kind, dice);
+    let (pages, _) = chip.as_chunks_mut::<256>();
+    for (p, page) in pages.iter_mut().enumerate() {
+        *page = plan.sort(p, dice).page(dice);
     }
 }
 
 // ---- work areas
 
-// A word of the heading of the work area: mark, head, next place and number of keys, within their ranges where it is tame.
-fn heading_word(i: usize, tame: bool, r: u32) -> u32 {
-    match i {
-        0 => if tame { 1 } else { r % 4 },
-        1 => if tame { r % 4 } else { r % 6 },
-        2 => if tame { r % 16 } else { r % 20 },
-        3 => if tame { r % 17 } else { r % 20 },
-        _ => r,
+// What is written over the heading of a work area: numbers within their ranges, or any.
+#[derive(Clone, Copy)]
+pub enum Heading {
+    Tame,
+    Wild,
+}
+
+impl Heading {
+    // Word i of it, by a roll: mark, head, next place and number of keys.
+    fn word(self, i: usize, roll: u32) -> u32 {
+        match (self, i) {
+            (Heading::Tame, 0) => 1,
+            (Heading::Tame, 1) => roll % 4,
+            (Heading::Tame, 2) => roll % 16,
+            (Heading::Tame, 3) => roll % 17,
+            (Heading::Wild, 0) => roll % 4,
+            (Heading::Wild, 1) => roll % 6,
+            (Heading::Wild, 2 | 3) => roll % 20,
+            _ => roll,
+        }
     }
 }
 
-// A word for the work area: one of the heading, or an entry below the limit; with the limit 0 the old one.
-fn random_word(i: usize, tame: bool, limit: u32, old: u32, x: &mut u64) -> u32 {
-    let r = roll(x) as u32;
-    if i < 16 {
-        return heading_word(i, tame, r);
-    }
-    if limit == 0 {
-        return old;
-    }
-    r % limit
+// What is written over the entries of its index: any numbers; places, of which some are past the chip's end; places; or nothing.
+#[derive(Clone, Copy)]
+pub enum Entries {
+    Any,
+    Near,
+    Places,
+    Kept,
 }
 
-// The work area is overwritten; with the limit 0 its index stays.
-pub fn scramble(work: &mut [u32; 80], tame: bool, limit: u32, x: &mut u64) {
-    let mut i = 0;
-    while i < 80 {
-        work[i] = random_word(i, tame, limit, work[i], x);
-        i += 1;
+impl Entries {
+    // An entry, by the one that stands there and a roll.
+    fn entry(self, old: u32, roll: u32) -> u32 {
+        match self {
+            Entries::Any => roll,
+            Entries::Near => roll % 80,
+            Entries::Places => roll % 64,
+            Entries::Kept => old,
+        }
+    }
+}
+
+// The work area is overwritten.
+pub fn scramble(work: &mut [u32], heading: Heading, entries: Entries, dice: &mut Dice) {
+    for (i, word) in work.iter_mut().enumerate() {
+        let roll = dice.roll() as u32;
+        *word = if i < 16 {
+            heading.word(i, roll)
+        } else {
+            entries.entry(*word, roll)
+        };
     }
 }
