@@ -7,6 +7,7 @@ use Prim.Native.Nat.{ℕ, zero, suc, ◌+◌, ◌<◌}
 use native.Mathlib.Decide.{ℕ_discrete}
 use native.Mathlib.Omega.{arith}
 use borrow.Author.Tests.{ne_eqb}
+use Rattle.std.specs.Prelude.{Option, Some, None, unwrap_or, IfSome}
 use Rattle.page.specs.Page.{byte, all, flips, blank, sound}
 use Rattle.page.specs.Look.{agree, lowest, spoilt_at, look_of, Apart}
 use Rattle.page.specs.declared.Look.TheVariants.{Blank, Sound, Spoilt}
@@ -43,14 +44,10 @@ module _ (pg : List ℕ) where
   unfolding spoilt_at
   spoilt_two e = rw e
 
-  module _ (e : byte pg 0 ≢ 2) (r : ℕ) (a : Apart pg r) where
-    pub spoilt_none : r ≡ 128 → 0 ≡ spoilt_at pg
-    unfolding spoilt_at
-    spoilt_none d = rw (ne_eqb (byte pg 0) 2 e, lowest_all (agree pg) 128 (sym (ap (all (agree pg)) d) ∙ a.below))
-
-    pub spoilt_here : r < 128 → r ≡ spoilt_at pg
-    unfolding spoilt_at
-    spoilt_here l = rw (ne_eqb (byte pg 0) 2 e, lowest_is (agree pg) 128 r l a.below (a.here l), ne_eqb r 128 (λ q. omega arith))
+  pub spoilt_one : byte pg 0 ≢ 2 → (o : Option ℕ) → Apart pg (unwrap_or o 128) → IfSome o (λ k. k < 128) → unwrap_or o 0 ≡ spoilt_at pg
+  unfolding spoilt_at
+  spoilt_one e None a l = rw (ne_eqb (byte pg 0) 2 e, lowest_all (agree pg) 128 a.below)
+  spoilt_one e (Some r) a l = rw (ne_eqb (byte pg 0) 2 e, lowest_is (agree pg) 128 r l a.below (a.here l), ne_eqb r 128 (λ q. omega arith))
 
   pub look_blank : blank pg ≡ true → Blank ≡ look_of pg
   unfolding look_of

@@ -6,6 +6,8 @@ use Prim.Native.Nat.{ℕ, zero, suc, ◌+◌, ◌*◌, ◌/◌, ◌%◌, ◌^◌
 use native.Mathlib.Nat.{add_comm, mul_comm, le_refl, le-max_left, max-le, eq-or-lt_of_le, le_of_suc-le-suc}
 use native.Mathlib.Numerals.{add-one}
 use native.Mathlib.Omega.{arith}
+use lib.ListN.{take, drop}
+use lib.Seq.{get_or-take, get_or-drop}
 use lib.Arith.{half_le}
 use lib.Bits.{bit_or, or_step, or_zero_r}
 use lib.Count.{ones, ones_step, ones_cat, ones-le}
@@ -93,11 +95,42 @@ ones_four a b c d n la lb lc e =
     let two : ones (c + 256 * d) ≡ ones d + ones c = ones_beside 8 d c _ lc refl in
     omega arith
 
--- low has the 1 bits of bytes a to a + 3, high those of the next four
-pub ones_eight : (pg : List ℕ) (a low high n : ℕ) → low < 4294967296 → n ≡ low + 4294967296 * high
-    → ones low ≡ ones (byte pg a) + ones (byte pg (a + 1)) + ones (byte pg (a + 2)) + ones (byte pg (a + 3))
-    → ones high ≡ ones (byte pg (a + 4)) + ones (byte pg (a + 5)) + ones (byte pg (a + 6)) + ones (byte pg (a + 7)) → ones n ≡ ones_at pg a
-unfolding ones_at
-ones_eight pg a low high n l e p q =
-    let both : ones n ≡ ones high + ones low = ones_beside 32 high low n l e in
+-- a byte of a part of a list
+pub byte_part : (l : List ℕ) (a n i : ℕ) → i < n → byte (take n (drop a l)) i ≡ byte l (a + i)
+byte_part l a n i h = get_or-take n (drop a l) i 0 h ∙ get_or-drop a l i 0
+
+pub ones_eight : (a b c d e f g h n : ℕ) → a < 256 → b < 256 → c < 256 → d < 256 → e < 256 → f < 256 → g < 256
+    → n ≡ a + b * 256 + c * 65536 + d * 16777216 + e * 4294967296 + f * 1099511627776 + g * 281474976710656 + h * 72057594037927936
+    → ones n ≡ ones a + ones b + ones c + ones d + ones e + ones f + ones g + ones h
+ones_eight a b c d e f g h n la lb lc ld le lf lg q =
+    let low : ℕ = a + 256 * b + 65536 * c + 16777216 * d in
+    let high : ℕ = e + 256 * f + 65536 * g + 16777216 * h in
+    let first : ones low ≡ ones a + ones b + ones c + ones d = ones_four a b c d low la lb lc refl in
+    let last : ones high ≡ ones e + ones f + ones g + ones h = ones_four e f g h high le lf lg refl in
+    let both : ones n ≡ ones high + ones low = ones_beside 32 high low n (omega arith) (omega arith) in
     omega arith
+
+-- xs: the eight bytes of a page from byte a on
+pub ones_read : (pg : List ℕ) (a : ℕ) (xs : List ℕ) (n : ℕ) → Bytes pg → ((i : ℕ) → i < 8 → byte xs i ≡ byte pg (a + i))
+    → n ≡ byte xs 0 + byte xs 1 * 256 + byte xs 2 * 65536 + byte xs 3 * 16777216 + byte xs 4 * 4294967296 + byte xs 5 * 1099511627776 + byte xs 6 * 281474976710656 + byte xs 7 * 72057594037927936
+    → ones n ≡ ones_at pg a
+unfolding ones_at
+ones_read pg a xs n b h e =
+    let small : (i : ℕ) → i < 8 → byte xs i < 256 = λ i l. omega (arith, h i l, b (a + i)) in
+    let same : (i : ℕ) → i < 8 → ones (byte xs i) ≡ ones (byte pg (a + i)) = λ i l. ap ones (h i l) in
+    let zeroth : a + 0 ≡ a = omega arith in
+    let all =
+    ones_eight _ _ _ _ _ _ _ _ n (small 0 (omega arith)) (small 1 (omega arith)) (small 2 (omega arith)) (small 3 (omega arith)) (small 4 (omega arith)) (small 5 (omega arith)) (small 6 (omega arith)) e in
+    omega (
+      arith,
+      all,
+      same 0 (omega arith),
+      ap (λ (k : ℕ). ones (byte pg k)) zeroth,
+      same 1 (omega arith),
+      same 2 (omega arith),
+      same 3 (omega arith),
+      same 4 (omega arith),
+      same 5 (omega arith),
+      same 6 (omega arith),
+      same 7 (omega arith),
+    )

@@ -16,9 +16,9 @@ module _ (pg : List ℕ) where
   unfolding blank_to all
   blank_none = refl
 
-  -- within a run, a byte more; k is its index, however the code says that
-  pub run_turn : (m i k : ℕ) (ok : Bool) → ok ≡ all (λ j. eqb (byte pg (m + j)) 255) i → k ≡ m + i → (ok && eqb (byte pg k) 255) ≡ all (λ j. eqb (byte pg (m + j)) 255) (i + 1)
-  run_turn m i k ok e q = all_more _ i ok _ e (ap (λ (j : ℕ). eqb (byte pg j) 255) q)
+  -- within a run, a byte more
+  pub run_turn : (m i x : ℕ) (ok : Bool) → ok ≡ all (λ j. eqb (byte pg (m + j)) 255) i → x ≡ byte pg (m + i) → (ok && eqb x 255) ≡ all (λ j. eqb (byte pg (m + j)) 255) (i + 1)
+  run_turn m i x ok e q = all_more _ i ok _ e (ap (λ (y : ℕ). eqb y 255) q)
 
   -- a run more; m is where it begins, however the code says that
   pub blank_more : (n m k : ℕ) → m ≡ n → k ≡ n + 64 → blank_to pg n ≡ true → blank_run pg m ≡ true → blank_to pg k ≡ true

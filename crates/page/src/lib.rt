@@ -4,7 +4,7 @@
 // so the compiler vectorises it.
 #![tactic(auto)]
 
-ghost use Rattle.std.specs.Prelude.{◌≡◌, ◌+◌, ◌-◌, ◌*◌, ◌≤◌, ◌<◌, eqb, length, take};
+ghost use Rattle.std.specs.Prelude.{◌≡◌, ◌+◌, ◌-◌, ◌*◌, ◌≤◌, ◌<◌, eqb, take, unwrap_or, IfSome};
 ghost use Rattle.std.specs.Int.Bits.{bit_and, bit_or, bit_xor};
 ghost use Rattle.std.specs.Int.Count.{ones};
 ghost use Rattle.page.specs.Page.{Bare, blank, blank_run, flips, flipped, ones_to, counted, count_form, sound};
@@ -27,10 +27,8 @@ fn blank_run(page: &Page, from: usize) -> bool
     ensures { result ≡ blank_run page.now from }
 {
     let mut ok = true;
-    let mut i = 0;
-    while i < 64 {
-        ok = ok & (page[from + i] == 255);
-        i += 1;
+    for x in &page[from..from + 64] {
+        ok &= *x == 255;
     }
     ok
 }
@@ -39,12 +37,10 @@ fn blank_run(page: &Page, from: usize) -> bool
 pub fn is_blank(page: &Page) -> bool
     ensures { result ≡ blank page.now }
 {
-    let mut run = 0;
-    while run < 4 {
+    for run in 0..4 {
         if !blank_run(page, 64 * run) {
             return false;
         }
-        run += 1;
     }
     true
 }
@@ -54,19 +50,10 @@ fn is_flipped(page: &Page) -> bool
     ensures { result ≡ flipped page.now }
 {
     let mut ok = true;
-    let mut i = 0;
-    while i < 128 {
-        ok = ok & flips(page[i], page[128 + i]);
-        i += 1;
+    for i in 0..128 {
+        ok &= flips(page[i], page[128 + i]);
     }
     ok
-}
-
-// Four bytes as one number, the first lowest.
-fn four(a: u8, b: u8, c: u8, d: u8) -> u64
-    ensures { (result < 4294967296) × (ones result ≡ ones a + ones b + ones c + ones d) }
-{
-    a as u64 + 256 * b as u64 + 65536 * c as u64 + 16777216 * d as u64
 }
 
 // Eight bytes as one number. (The compiler makes one load of it.)
@@ -74,9 +61,9 @@ fn eight_at(page: &Page, a: usize) -> u64
     requires { a + 8 ≤ 256 }
     ensures { ones result ≡ ones_at page.now a }
 {
-    let low = four(page[a], page[a + 1], page[a + 2], page[a + 3]);
-    let high = four(page[a + 4], page[a + 5], page[a + 6], page[a + 7]);
-    low + 4294967296 * high
+    let mut bytes = [0; 8];
+    bytes.copy_from_slice(&page[a..a + 8]);
+    u64::from_le_bytes(bytes)
 }
 
 // Three numbers are added bit by bit: where two bits or three are 1, and where one is or all three are. So three numbers are two to be counted.
@@ -96,7 +83,7 @@ fn odds(a: u64, b: u64, c: u64) -> u64
 fn weigh(f: u64, t: u64, a: u64, b: u64) -> u32
     ensures { result ≡ 4 * ones f + 2 * ones t + ones a + ones b }
 {
-    4 * u64::count_ones(f) + 2 * u64::count_ones(t) + u64::count_ones(a) + u64::count_ones(b)
+    4 * f.count_ones() + 2 * t.count_ones() + a.count_ones() + b.count_ones()
 }
 
 // The 1 bits of eight numbers, of which four are counted.
@@ -134,10 +121,8 @@ fn one_bits(page: &Page) -> u32
     ensures { (result ≡ ones_to page.now 256) × (result ≤ 2048) }
 {
     let mut n = 0;
-    let mut j = 0;
-    while j < 4 {
+    for j in 0..4 {
         n += lane(page, 8 * j);
-        j += 1;
     }
     n
 }
@@ -147,7 +132,7 @@ fn counts(high: u8, low: u8, n: u32) -> bool
     requires { n ≤ 2048 }
     ensures { result ≡ eqb (256 * high + low + n) (2032 + ones high + ones low) }
 {
-    256 * high as u32 + low as u32 + n == 2032 + u8::count_ones(high) + u8::count_ones(low)
+    256 * u32::from(high) + u32::from(low) + n == 2032 + high.count_ones() + low.count_ones()
 }
 
 // The same of a page.
@@ -172,18 +157,17 @@ pub fn is_sound(page: &Page) -> bool
     false
 }
 
-// The lowest byte of the first half whose copy in the second is another; 128 if there is none.
-fn first_apart(page: &Page) -> usize
-    ensures { Apart page.now result }
+// The lowest byte of the first half whose copy in the second is another.
+fn first_apart(page: &Page) -> Option<usize>
+    ensures lowest { Apart page.now (unwrap_or result 128) }
+    ensures within { IfSome result (λ k. k < 128) }
 {
-    let mut k = 0;
-    while k < 128 {
+    for k in 0..128 {
         if !flips(page[k], page[128 + k]) {
-            return k;
+            return Some(k);
         }
-        k += 1;
     }
-    k
+    None
 }
 
 // What a page is: blank, sound, or spoilt, and then at which byte.
@@ -201,11 +185,7 @@ fn spoilt_at(page: &Page) -> usize
     if page[0] == 2 {
         return 254;
     }
-    let k = first_apart(page);
-    if k == 128 {
-        return 0;
-    }
-    k
+    first_apart(page).unwrap_or(0)
 }
 
 // What a page is.
@@ -227,10 +207,8 @@ fn ones_to(page: &Page, n: usize) -> u32
     ensures { result ≡ ones_to page.now (8 * n) }
 {
     let mut ones = 0;
-    let mut i = 0;
-    while i < n {
-        ones += u64::count_ones(eight_at(page, 8 * i));
-        i += 1;
+    for i in 0..n {
+        ones += eight_at(page, 8 * i).count_ones();
     }
     ones
 }

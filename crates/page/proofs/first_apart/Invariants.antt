@@ -1,13 +1,9 @@
 -- `page::first_apart` meets its contract. The invariant: the bytes passed agree with their copies. Assumes nothing.
 use mathlib.Core.Path.{◌≡◌}
 use mathlib.Core.Bool.{true}
-use Prim.Native.Nat.{◌≤◌, ◌-◌}
 use Rattle.page.specs.Page.{all}
 use Rattle.page.specs.Look.{agree}
 use Rattle.page.proofs.first_apart.Given as goal
 
 abbrev pub invariant-loop-k : goal.invariant-loop-k
-invariant-loop-k l = (l.k ≤ 128) × (all (agree l.page) l.k ≡ true)
-
-abbrev pub decreases-loop-k : goal.decreases-loop-k
-decreases-loop-k l = 128 - l.k
+invariant-loop-k l = all (agree l.page) l.k ≡ true

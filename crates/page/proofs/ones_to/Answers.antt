@@ -7,7 +7,7 @@ use Rattle.page.proofs.Adding.{ones_up}
 use Rattle.page.proofs.ones_to.Goals as goal
 
 pub loop-i-init : goal.loop-i-init
-loop-i-init c = (omega arith, ones_none _)
+loop-i-init c = ones_none _
 
 pub overflow_add-ones : goal.overflow_add-ones
 overflow_add-ones c =
@@ -17,9 +17,9 @@ overflow_add-ones c =
 pub loop-i-preserved : goal.loop-i-preserved
 loop-i-preserved c =
     let next : 8 * c.loop-i.i + 8 ≡ 8 * (c.loop-i.i + 1) = omega arith in
-    (omega arith, omega (arith, c.eight_at.ensures, ones_up c.args.page.now (8 * c.loop-i.i), ap (ones_to c.args.page.now) next))
+    omega (arith, c.eight_at.ensures, ones_up c.args.page.now (8 * c.loop-i.i), ap (ones_to c.args.page.now) next)
 
 pub returns : goal.returns
 returns c =
     let last : 8 * c.loop-i.i ≡ 8 * c.args.n = omega arith in
-    c.loop-i.invariant.1 ∙ ap (ones_to c.args.page.now) last
+    c.loop-i.invariant ∙ ap (ones_to c.args.page.now) last
