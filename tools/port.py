@@ -31,7 +31,7 @@ V = r"(?:%[\w.]+|-?\d+|true|false)"
 P = r"%[\w.]+"
 I = r"i(?:1|8|16|32|64)"
 T = r"(?:i1|i8|i16|i32|i64|ptr)"
-PAIR = r"\{ (?:i8, i8|(?:i8|ptr), i64) \}"  # what two registers hold: a slice, or an enum's number and what it has; never a place's type
+PAIR = r"\{ (?:i8, (?:i8|ptr)|(?:i8|ptr), i64) \}"  # what two registers hold: a slice, or an enum's number and what it has; never a place's type
 R = rf"(?:{T}|{PAIR})"
 EMPTY = r"@static\.\d+"  # a slice's beginning where it has no byte
 NAME = r"""@(?:"[\w:<>, &\[\]=+'{}#]+"|(?!llvm)[\w.]+)"""
@@ -251,8 +251,12 @@ def follow(functions, without=()):
             elif m := re.match(rf"{P} = load \{{ i8, (i8|i64) \}}, ptr ({P}),", line):
                 take(m[2], 1, False)
                 take(m[2], *((1, False, 1) if m[1] == "i8" else (8, False, 8)))
-            elif m := re.match(rf"({P}) = extractvalue \{{ ptr, i64 \}} ({P}), 0", line):
-                pointers.same(own(m[1]), own(m[2]))
+            elif m := re.match(rf"({P}) = load \{{ i8, ptr \}}, ptr ({P}),", line):
+                pointers.same(own(m[1]), pointers.content(own(m[2]), 8))
+                take(m[2], 1, False)
+                take(m[2], 8, True, on=8)
+            elif m := re.match(rf"({P}) = extractvalue (?:\{{ ptr, i64 \}} ({P}), 0|\{{ i8, ptr \}} ({P}), 1)", line):
+                pointers.same(own(m[1]), own(m[2] or m[3]))
             elif m := re.match(rf"store ptr ({P}|{EMPTY}), ptr ({P}),", line):
                 pointers.same(own(m[1]), pointers.content(own(m[2])))
                 take(m[2], 8, True)
@@ -273,9 +277,9 @@ def follow(functions, without=()):
                 for (kind, name), word in zip(by_name[m[3]].parameters, m[4].split(", ")):
                     if kind == "ptr":
                         pointers.same((m[3], name), own(word.split()[-1]))
-                if m[2] in ("ptr", "{ ptr, i64 }"):
+                if m[2] in ("ptr", "{ ptr, i64 }", "{ i8, ptr }"):
                     pointers.same((m[3], "its answer"), own(m[1]))
-            elif m := re.match(rf"ret (?:ptr|\{{ ptr, i64 \}}) ({P})", line):
+            elif m := re.match(rf"ret (?:ptr|\{{ ptr, i64 \}}|\{{ i8, ptr \}}) ({P})", line):
                 pointers.same(own("its answer"), own(m[1]))
     return pointers, taken, copied
 
@@ -395,14 +399,14 @@ def swap(text, functions):
 
 
 def narrow(text):
-    """The module's text in which each pair with an i64 is loaded as its two parts: how far the second is from the first LLVM would take from the target. And an
-    address is widened."""
-    parts = r"""  \1.a = load \3, ptr \4, align 8
-  \1.at = getelementptr i8, ptr \4, i64 8
-  \1.b = load i64, ptr \1.at, align 8
+    """The module's text in which each pair with an i64 or a pointer behind is loaded as its two parts: how far the second is from the first LLVM would take from
+    the target. And an address is widened."""
+    parts = r"""  \1.a = load \3, ptr \5, align 8
+  \1.at = getelementptr i8, ptr \5, i64 8
+  \1.b = load \4, ptr \1.at, align 8
   \1.ab = insertvalue \2 poison, \3 \1.a, 0
-  \1 = insertvalue \2 \1.ab, i64 \1.b, 1"""
-    text = re.sub(rf"^  ({P}) = load (\{{ (i8|ptr), i64 \}}), ptr ({P}), align 8$", parts, text, flags=re.M)
+  \1 = insertvalue \2 \1.ab, \4 \1.b, 1"""
+    text = re.sub(rf"^  ({P}) = load (\{{ (i8|ptr), (i64|ptr) \}}), ptr ({P}), align 8$", parts, text, flags=re.M)
     return re.sub(rf"^  ({P}) = ptrtoaddr ptr ({P}) to i64$", r"  \1 = ptrtoint ptr \2 to i64", text, flags=re.M)
 
 
