@@ -6,7 +6,7 @@ ghost use Rattle.record.specs.Record.{record_of, record_page};
 ghost use Rattle.trying.specs.Noises.{noise_byte};
 ghost use Rattle.calls.specs.Lent.{PutOn, DeleteOn, StartOn, FormatOn, GetOn, CountOn, KeepsLengths, Makes, IsCut};
 
-use lent::Answer;
+use lent::Refusal;
 use std::alloc::{AllocError, Global};
 use trying::Noise;
 
@@ -20,74 +20,76 @@ pub struct Bench {
 }
 
 impl Bench {
-    pub fn put(&mut self, key: &[u8], value: &[u8]) -> Answer
+    pub fn put(&mut self, key: &[u8], value: &[u8]) -> Result<usize, Refusal>
         ensures made { PutOn key.now value.now self.old self.new result }
         ensures kept { KeepsLengths self.old self.new }
     {
-        change::put(
-            &mut self.chip,
-            &mut self.work,
-            &mut self.fuse,
-            &self.noise,
-            key,
-            value,
-        )
+        let Bench {
+            chip,
+            work,
+            fuse,
+            noise,
+        } = self;
+        change::put(chip, work, fuse, noise, key, value)
     }
 
-    pub fn delete(&mut self, key: &[u8]) -> Answer
+    pub fn delete(&mut self, key: &[u8]) -> Result<usize, Refusal>
         ensures made { DeleteOn key.now self.old self.new result }
         ensures kept { KeepsLengths self.old self.new }
     {
-        change::delete(
-            &mut self.chip,
-            &mut self.work,
-            &mut self.fuse,
-            &self.noise,
-            key,
-        )
+        let Bench {
+            chip,
+            work,
+            fuse,
+            noise,
+        } = self;
+        change::delete(chip, work, fuse, noise, key)
     }
 
-    pub fn start(&mut self) -> Answer
+    pub fn start(&mut self) -> Result<usize, Refusal>
         ensures made { StartOn self.old self.new result }
         ensures kept { KeepsLengths self.old self.new }
     {
         start::start(&self.chip, &mut self.work, &self.fuse)
     }
 
-    pub fn format(&mut self) -> Answer
+    pub fn format(&mut self) -> Result<usize, Refusal>
         ensures made { FormatOn self.old self.new result }
         ensures kept { KeepsLengths self.old self.new }
     {
-        format::format(&mut self.chip, &mut self.work, &mut self.fuse, &self.noise)
+        let Bench {
+            chip,
+            work,
+            fuse,
+            noise,
+        } = self;
+        format::format(chip, work, fuse, noise)
     }
 
-    pub fn get(&self, key: &[u8], buffer: &mut [u8]) -> Answer
+    pub fn get(&self, key: &[u8], buffer: &mut [u8]) -> Result<usize, Refusal>
         ensures { GetOn key.now self.now buffer.old buffer.new result }
     {
         fetch::get(&self.chip, &self.work, &self.fuse, key, buffer)
     }
 
-    pub fn count(&self) -> Answer
+    pub fn count(&self) -> Result<usize, Refusal>
         ensures { CountOn self.now result }
     {
         fetch::count(&self.chip, &self.work, &self.fuse)
     }
 
     // So many puts of the key, up to the first that is refused: the value of put i is i in decimal.
-    fn put_often(&mut self, key: &[u8], times: u64) -> Answer
+    fn put_often(&mut self, key: &[u8], times: u64) -> Result<usize, Refusal>
         ensures { KeepsLengths self.old self.new }
     {
         for i in 0..times {
             let mut digits = itoa::Buffer::new();
-            let answer = self.put(key, digits.format(i).as_bytes());
-            if let Answer::Refused(_) = answer {
-                return answer;
-            }
+            self.put(key, digits.format(i).as_bytes())?;
         }
-        Answer::Done(0)
+        Ok(0)
     }
 
-    pub fn make(&mut self, call: &Call) -> Answer
+    pub fn make(&mut self, call: &Call) -> Result<usize, Refusal>
         ensures made { Makes call.now self.old self.new result }
         ensures kept { KeepsLengths self.old self.new }
     {
@@ -128,22 +130,6 @@ impl Call {
             b"format" => Some(Call::Format),
             _ => None,
         })
-    }
-}
-
-// The refusal's number; 0 where the call is done.
-pub fn refusal(answer: Answer) -> u32 {
-    match answer {
-        Answer::Done(_) => 0,
-        Answer::Refused(k) => k,
-    }
-}
-
-// What a call that is done answered; 0 for one that was refused.
-pub fn amount(answer: Answer) -> usize {
-    match answer {
-        Answer::Done(n) => n,
-        Answer::Refused(_) => 0,
     }
 }
 

@@ -16,191 +16,122 @@
 // In a key or a value `v*221` stands for 221 times v, and `%7f` for the byte 0x7F.
 #![tactic(auto)]
 
-ghost use Rattle.std.specs.Prelude.{◌≤◌, ◌<◌, length, IfOk};
-ghost use Rattle.trying.specs.Counts.{IsPrefixLen};
-
+use calls::{Bench, Call};
+use lent::Refusal;
+use std::alloc::{AllocError, Global};
 use std::io;
-use trying::LONGEST;
+use trying::{LONGEST, Noise};
 
-// ---- what a line is answered
-
-// The answer of a call that answers no number.
-fn say(rt: &impl Print, k: u32) -> io::Result<()> {
-    if k == 0 {
-        return trying::text(rt, b": done");
-    }
-    trying::text(rt, b": refused ")?;
-    trying::number(rt, k as u64)
+// What a line of the script says.
+#[derive(Drop)]
+enum Line {
+    Heading,
+    Lend,
+    Fuse(u64),
+    Noise(Noise),
+    Count,
+    Get(Vec<u8>, usize),
+    // no call where the line names none: it is done
+    Call(Option<Call>),
 }
 
-// The answer of get or count.
-fn tell(rt: &impl Print, k: u32, n: usize) -> io::Result<()> {
-    if k != 0 {
-        return say(rt, k);
+impl Line {
+    fn read(alloc: Global, line: &[u8]) -> Result<Line, AllocError> {
+        Ok(match trying::word(line, 0) {
+            b"" | b"#" => Line::Heading,
+            b"lend" => Line::Lend,
+            b"fuse" => Line::Fuse(trying::numeral(line, 1)),
+            b"noise" => Line::Noise(Noise::try_from(trying::word(line, 1)).unwrap_or(Noise::Kept)),
+            b"count" => Line::Count,
+            b"get" => Line::Get(
+                trying::bytes(alloc, line, 1)?,
+                trying::numeral(line, 2) as usize,
+            ),
+            _ => Line::Call(Call::read(alloc, line)?),
+        })
     }
-    trying::text(rt, b": answers ")?;
-    trying::number(rt, n as u64)
-}
-
-// get KEY N, with that buffer: it is printed whole, so that one sees what was left as it was.
-fn tell_get(
-    rt: &impl Print,
-    line: &[u8],
-    chip: &[u8],
-    work: &[u32],
-    fuse: &u64,
-    buffer: &mut [u8],
-) -> io::Result<()> {
-    let mut key = [0u8; LONGEST];
-    let k = trying::bytes(line, 1, &mut key);
-    let answer = calls::get(chip, work, fuse, &key[..k], buffer);
-    tell(rt, calls::refusal(answer), calls::amount(answer))?;
-    trying::text(rt, b", buffer '")?;
-    trying::text(rt, buffer)?;
-    trying::text(rt, b"'")
-}
-
-// So many bytes, or all.
-fn count_bytes(n: u64, bytes: &[u8]) -> usize
-    ensures { IsPrefixLen result bytes.now }
-{
-    if n < bytes.len() as u64 {
-        return n as usize;
-    }
-    bytes.len()
-}
-
-// get KEY N, count
-fn tell_line(
-    rt: &impl Print,
-    which: usize,
-    line: &[u8],
-    chip: &[u8],
-    work: &[u32],
-    fuse: &u64,
-) -> io::Result<()> {
-    if which == 1 {
-        let answer = calls::count(chip, work, fuse);
-        return tell(rt, calls::refusal(answer), calls::amount(answer));
-    }
-    let mut buffer = [b'.'; LONGEST];
-    let n = count_bytes(trying::numeral(line, 2), &buffer);
-    tell_get(rt, line, chip, work, fuse, &mut buffer[..n])
-}
-
-// ---- the script
-
-// A line with a call.
-fn play_call(
-    rt: &impl Print,
-    line: &[u8],
-    chip: &mut [u8],
-    work: &mut [u32],
-    fuse: &mut u64,
-    noise: &[u8; 4096],
-) -> io::Result<()> {
-    let which = trying::verb(b"get count fuse noise #", line);
-    if which < 2 {
-        return tell_line(rt, which, line, chip, work, fuse);
-    }
-    if which == 16 {
-        say(
-            rt,
-            calls::refusal(calls::make(line, chip, work, fuse, noise)),
-        )?;
-    }
-    Ok(())
-}
-
-// fuse N, noise NAME
-fn set(line: &[u8], fuse: &mut u64, noise: &mut [u8; 4096]) {
-    let which = trying::verb(b"fuse noise", line);
-    if which == 0 {
-        *fuse = trying::numeral(line, 1);
-        return;
-    }
-    if which == 1 {
-        let name = trying::word(line, 1);
-        calls::make_noise(trying::verb(b"zeros ones mixed forged kept", name), noise);
-    }
-}
-
-// One line, and what it is answered.
-fn play_line(
-    rt: &impl Print,
-    line: &[u8],
-    chip: &mut [u8],
-    work: &mut [u32],
-    fuse: &mut u64,
-    noise: &mut [u8; 4096],
-) -> io::Result<()> {
-    trying::text(rt, line)?;
-    set(line, fuse, noise);
-    play_call(rt, line, chip, work, fuse, noise)?;
-    trying::text(rt, b"\n")
-}
-
-// The lines from there on, up to the next chip that is lent. Answers where that is.
-fn play_on(
-    rt: &impl Print,
-    script: &[u8],
-    from: usize,
-    chip: &mut [u8],
-    work: &mut [u32],
-) -> io::Result<usize>
-    requires { from ≤ length script.now }
-    ensures { IfOk result (λ n. (from ≤ n) × (n ≤ length script.now)) }
-{
-    let mut fuse: u64 = 1000000000;
-    let mut noise = [0u8; 4096];
-    let mut at = from;
-    while at < script.len() {
-        let line = trying::line(script, at);
-        if trying::verb(b"lend", line) == 0 {
-            break;
-        }
-        play_line(rt, line, chip, work, &mut fuse, &mut noise)?;
-        at = trying::next(script, at);
-    }
-    Ok(at)
-}
-
-// So many words, or all.
-fn count(n: u64, work: &[u32]) -> usize
-    ensures { IsPrefixLen result work.now }
-{
-    if n < work.len() as u64 {
-        return n as usize;
-    }
-    work.len()
 }
 
 // lend N BYTE M: at most five blocks and 96 words
-fn play_lent(rt: &impl Print, script: &[u8], from: usize) -> io::Result<usize>
-    requires { from < length script.now }
-    ensures { IfOk result (λ n. (from < n) × (n ≤ length script.now)) }
-{
-    let line = trying::line(script, from);
-    trying::text(rt, line)?;
-    trying::text(rt, b"\n")?;
-    let mut chip = [(trying::numeral(line, 2) % 256) as u8; 20480];
-    let mut work = [0u32; 96];
-    let n = count_bytes(trying::numeral(line, 1), &chip);
-    let m = count(trying::numeral(line, 3), &work);
-    play_on(
-        rt,
-        script,
-        trying::next(script, from),
-        &mut chip[..n],
-        &mut work[..m],
-    )
+fn lend(alloc: Global, line: &[u8]) -> Result<Bench, AllocError> {
+    let n = (trying::numeral(line, 1) as usize).min(20480);
+    let byte = (trying::numeral(line, 2) % 256) as u8;
+    let m = (trying::numeral(line, 3) as usize).min(96);
+    Ok(Bench {
+        chip: vec![in alloc; byte; n]?,
+        work: vec![in alloc; 0u32; m]?,
+        fuse: 1000000000,
+        noise: [0u8; 4096],
+    })
 }
 
-// Plays the script, from chip to chip.
-fn play(rt: &impl Print, script: &[u8]) -> io::Result<()> {
-    let mut at = 0;
-    while at < script.len() {
-        at = play_lent(rt, script, at)?;
+// The answer of a call that answers no number.
+fn say(rt: &impl Print, answer: Result<usize, Refusal>) -> io::Result<()> {
+    match answer {
+        Ok(_) => print!(rt; ": done"),
+        Err(refusal) => print!(rt; ": refused {}", refusal.number()),
+    }
+}
+
+// The answer of get or count.
+fn tell(rt: &impl Print, answer: Result<usize, Refusal>) -> io::Result<()> {
+    match answer {
+        Ok(n) => print!(rt; ": answers {n}"),
+        Err(_) => say(rt, answer),
+    }
+}
+
+// get KEY N: the buffer is printed whole, so that one sees what was left as it was.
+fn tell_get(
+    rt: &(impl Print + AllocGlobal),
+    bench: &Bench,
+    key: &[u8],
+    n: usize,
+) -> io::Result<()> {
+    let mut buffer = vec![in rt.alloc(); b'.'; n.min(LONGEST)]?;
+    let answer = bench.get(key, &mut buffer);
+    tell(rt, answer)?;
+    print!(rt; ", buffer '")?;
+    rt.write_all(&buffer)?;
+    print!(rt; "'")
+}
+
+// What a line does, and what it is answered.
+fn play_line(rt: &(impl Print + AllocGlobal), line: &[u8], bench: &mut Bench) -> io::Result<()> {
+    match Line::read(rt.alloc(), line)? {
+        Line::Heading => Ok(()),
+        Line::Lend => {
+            *bench = lend(rt.alloc(), line)?;
+            Ok(())
+        }
+        Line::Fuse(n) => {
+            bench.fuse = n;
+            Ok(())
+        }
+        Line::Noise(noise) => {
+            bench.noise = calls::noise(noise);
+            Ok(())
+        }
+        Line::Count => tell(rt, bench.count()),
+        Line::Get(key, n) => tell_get(rt, bench, &key, n),
+        Line::Call(Some(call)) => say(rt, bench.make(&call)),
+        Line::Call(None) => say(rt, Ok(0)),
+    }
+}
+
+// Plays the script, each line printed with what it is answered. The first line lends a chip, whatever it says.
+fn play(rt: &(impl Print + AllocGlobal), script: &[u8]) -> io::Result<()> {
+    let lines = trying::lines(rt.alloc(), script)?;
+    let Some(first) = lines.first() else {
+        return Ok(());
+    };
+    let mut bench = lend(rt.alloc(), first)?;
+    rt.write_all(first)?;
+    println!(rt)?;
+    for line in &lines[1..] {
+        rt.write_all(line)?;
+        play_line(rt, line, &mut bench)?;
+        println!(rt)?;
     }
     Ok(())
 }
