@@ -7,25 +7,40 @@ use native.Mathlib.Nat.{mod_self, mod-eq_of_lt, eq-or-lt_of_le, le_of_suc-le-suc
 use native.Mathlib.Omega.{arith}
 use lib.Dec.{eqb}
 use borrow.Author.Tests.{eqb-true, eqb-false, le-leb, eq-eqb, ne_eqb, not-true, not-false}
-use Rattle.page.specs.Page.{all}
-use Rattle.page.proofs.All.{and_true, and_left, and_right, all_at, all_of, all_fails, all_more}
+use Rattle.std.specs.Int.{from_bool}
+use Rattle.std.specs.List.{list_all, range_with_len}
+use Rattle.std.proofs.lemmas.List.FromFn.{length-range_with_len, get_or-range_with_len}
+use Rattle.page.specs.Page.{byte, all}
+use Rattle.page.proofs.All.{and_true, and_left, and_right, all_at, all_of, all_fails, all_list}
 use Rattle.ring_log.specs.Ring.{Chip, sealed, head_from, head, first_test, later_test, ring_test, next_to}
 use Rattle.ring_log.specs.Log.{page_of}
 use Rattle.ring.specs.Seals.{one, counted, head_by, sealed_below, blank_from, Begins}
 
--- ---- tests of all blocks, or of all pages
+-- ---- tests of all pages
 
-module _ (p : ℕ → Bool) where
-  -- one more that holds
-  pub all_next : (i : ℕ) → all p i ≡ true → p i ≡ true → all p (i + 1) ≡ true
-  all_next i a e = sym (all_more p i true true (sym a) (sym e))
+-- tests that agree
+all_same : (p q : ℕ → Bool) (n : ℕ) → ((i : ℕ) → i < n → p i ≡ q i) → all p n ≡ all q n
+unfolding all
+all_same p q zero h = refl
+all_same p q (suc n) h = λ i. all_same p q n (λ j l. h j (omega arith)) i && h n (omega arith) i
 
-  -- none yet
-  pub all_none : all p 0 ≡ true
-  unfolding all
-  all_none = refl
+not_not : (b : Bool) → b ≡ not (not b)
+not_not true = refl
+not_not false = refl
+
+-- the numbers from a on pass a test, or none fails it
+pub all_range : (p : ℕ → Bool) (a n : ℕ) → list_all p (range_with_len a n) ≡ all (λ i. not (not (p (a + i)))) n
+all_range p a n =
+    all_list p (range_with_len a n)
+    ∙ ap (all (λ i. p (byte (range_with_len a n) i))) (length-range_with_len a n)
+    ∙ all_same _ _ n (λ i l. ap p (get_or-range_with_len a n i 0 l) ∙ not_not (p (a + i)))
 
 -- ---- how many hold
+
+-- a test as a number
+pub ones : (t : Bool) → from_bool t ≡ one t
+ones true = refl
+ones false = refl
 
 pub one_not : (t : Bool) → one t + one (not t) ≡ 1
 one_not true = refl
@@ -199,13 +214,13 @@ module _ (c : Chip) where
   -- ---- the next place of block h
   module _ (h : ℕ) where
     -- the page before place n isn't blank
-    pub next_full : (n : ℕ) → 0 < n → c.full (16 * h + n - 1) ≡ true → next_to c h n ≡ n
+    pub next_full : (n : ℕ) → 0 < n → c.full (16 * h + (n - 1)) ≡ true → next_to c h n ≡ n
     unfolding next_to
     next_full zero l e = absurd (omega arith)
     next_full (suc m) l e = ap (λ (b : Bool). cond b (suc m) (next_to c h m)) (ap c.full (omega arith) ∙ e)
 
     -- it is
-    pub next_blank : (n : ℕ) → 0 < n → c.full (16 * h + n - 1) ≡ false → next_to c h n ≡ next_to c h (n - 1)
+    pub next_blank : (n : ℕ) → 0 < n → c.full (16 * h + (n - 1)) ≡ false → next_to c h n ≡ next_to c h (n - 1)
     unfolding next_to
     next_blank zero l e = absurd (omega arith)
     next_blank (suc m) l e = ap (λ (b : Bool). cond b (suc m) (next_to c h m)) (ap c.full (omega arith) ∙ e) ∙ ap (next_to c h) {x = m} {y = suc m - 1} (omega arith)
@@ -214,24 +229,6 @@ module _ (c : Chip) where
     pub next_none : next_to c h 0 ≡ 0
     unfolding next_to
     next_none = refl
-
-  -- ---- the pages from p on
-  module _ (from p : ℕ) (l : from ≤ p) where
-    pub blank_next : blank_from c from (p - from) ≡ true → c.full p ≡ false → blank_from c from (p + 1 - from) ≡ true
-    blank_next a e =
-        ap (blank_from c from) (omega arith)
-        ∙ all_next (λ i. not (c.full (from + i))) (p - from) a (ap (λ (k : ℕ). not (c.full k)) (omega arith) ∙ ap not e)
-
-    pub blank_fails : (end : ℕ) → p < end → c.full p ≡ true → false ≡ blank_from c from (end - from)
-    blank_fails end m e =
-        sym (all_fails (λ i. not (c.full (from + i))) (end - from) (p - from) (omega arith) (ap (λ (k : ℕ). not (c.full k)) (omega arith) ∙ ap not e))
-
-  -- none of them yet, and all of them
-  pub blank_none : (p : ℕ) → blank_from c p (p - p) ≡ true
-  blank_none p = ap (blank_from c p) (omega arith) ∙ all_none (λ i. not (c.full (p + i)))
-
-  pub blank_through : (from p end : ℕ) → p ≡ end → blank_from c from (p - from) ≡ true → true ≡ blank_from c from (end - from)
-  blank_through from p end e a = sym a ∙ ap (λ (k : ℕ). blank_from c from (k - from)) e
 
   -- ---- all blocks but two are sealed, if so many are
   abbrev but : ℕ → ℕ → ℕ → Bool
@@ -287,20 +284,16 @@ module _ (c : Chip) where
         go true = refl
         go false = refl
 
-    -- ---- where the log begins: nowhere, at the oldest block, in the first round at block 0
-    begins_none : ring_test B c h ≡ false → Begins B c h 0
-    begins_none e = record { none = λ _. e; ring = λ l. absurd (omega arith); range = λ l. absurd (omega arith); silent = λ s l m. absurd (omega arith) }
-
+    -- ---- where the log begins: at the oldest block, in the first round at block 0
     begins_later : 4 ≤ B → ring_test B c h ≡ true → Begins B c h 2
-    begins_later big e = record { none = λ z. absurd (omega arith); ring = λ _. e; range = λ _. (omega arith, omega arith); silent = λ s l m. absurd (omega arith) }
+    begins_later big e = record { ring = e; range = (omega arith, omega arith); silent = λ s l m. absurd (omega arith) }
 
     begins_first : h + 2 < B → ring_test B c h ≡ true → blank_from c (16 * h + 16) (16 * B - (16 * h + 16)) ≡ true → Begins B c h (B - h)
     unfolding page_of
     begins_first far e z =
         record {
-          none = λ z. absurd (omega arith);
-          ring = λ _. e;
-          range = λ _. (omega arith, omega arith);
+          ring = e;
+          range = (omega arith, omega arith);
           silent = λ s l m.
               let d : s / 15 % B ≡ s / 15 = mod-eq_of_lt (let y : s / 15 < B = omega arith in y) in
               let i : ℕ = 16 * (s / 15) + s % 15 - (16 * h + 16) in
@@ -312,10 +305,10 @@ module _ (c : Chip) where
   -- ---- the same by what the seals say: h is the head, n blocks are sealed, and f says whether block 0 is
   module _ (B : ℕ) (big : 4 ≤ B) (h n : ℕ) (f : Bool) (l : h < B) (e : h ≡ head B c) (a : f ≡ sealed c 0) (so : n ≡ counted (λ x. sealed c x) B) where
     -- the head is sealed
-    pub begin_sealed : (eqb h 0 && f) ≡ true → Begins B c h 0
+    pub begin_sealed : (eqb h 0 && f) ≡ true → ring_test B c h ≡ false
     begin_sealed t =
         let z : h ≡ 0 = eqb-true h 0 (and_left (eqb h 0) f t) in
-        begins_none B h l (ring_sealed B h l (ap (sealed c) z ∙ sym a ∙ and_right (eqb h 0) f t))
+        ring_sealed B h l (ap (sealed c) z ∙ sym a ∙ and_right (eqb h 0) f t)
 
     module _ (t : (eqb h 0 && f) ≡ false) where
       unsealed : sealed c h ≡ false
@@ -349,10 +342,10 @@ module _ (c : Chip) where
           some (suc k) z = omega arith
 
           -- a gap below the head
-          pub begin_gap : (not (eqb h 0) && not f) ≡ true → Begins B c h 0
+          pub begin_gap : (not (eqb h 0) && not f) ≡ true → ring_test B c h ≡ false
           begin_gap u =
               let k : 0 < h = some h (eqb-false h 0 (not-true _ (and_left (not (eqb h 0)) (not f) u))) in
-              begins_none B h l (ring_gap B h l unsealed no_later (below_gap B h e k (sym a ∙ not-true _ (and_right (not (eqb h 0)) (not f) u))))
+              ring_gap B h l unsealed no_later (below_gap B h e k (sym a ∙ not-true _ (and_right (not (eqb h 0)) (not f) u)))
 
           module _ (u : (not (eqb h 0) && not f) ≡ false) where
             below : sealed_below c h ≡ true
@@ -366,8 +359,8 @@ module _ (c : Chip) where
             by_blank : (k : Bool) → blank_from c (16 * h + 16) (16 * B - (16 * h + 16)) ≡ k → ring_test B c h ≡ k
             by_blank k v = ring_first B h l k unsealed no_later below v
 
-            pub begin_unblank : blank_from c (16 * h + 16) (16 * B - (16 * h + 16)) ≡ false → Begins B c h 0
-            begin_unblank v = begins_none B h l (by_blank false v)
+            pub begin_unblank : blank_from c (16 * h + 16) (16 * B - (16 * h + 16)) ≡ false → ring_test B c h ≡ false
+            begin_unblank v = by_blank false v
 
             pub begin_first : h + 2 < B → blank_from c (16 * h + 16) (16 * B - (16 * h + 16)) ≡ true → Begins B c h (B - h)
             begin_first far v = begins_first B h l far (by_blank true v) v

@@ -1,5 +1,5 @@
 -- What the seals say, and where the log of a ring begins. Assumes nothing.
-use Rattle.std.specs.Prelude.{Bool, true, false, cond, not, ◌&&◌, ◌≡◌, ℕ, zero, suc, ◌+◌, ◌*◌, ◌≤◌, ◌<◌, eqb}
+use Rattle.std.specs.Prelude.{Option, Some, None, Bool, true, false, cond, not, ◌&&◌, ◌≡◌, ℕ, zero, suc, ◌+◌, ◌*◌, ◌≤◌, ◌<◌, eqb}
 use Rattle.std.proofs.Math.Option.{none as nothing}
 use Rattle.page.specs.Page.{all}
 use Rattle.ring_log.specs.Log.{page_of}
@@ -23,8 +23,9 @@ head_by h before here x = cond (eqb h 0 && before && not here) x h
 
 -- what the seals say: the head, whether block 0 is sealed, and how many blocks are
 pub record SealsSay (B : ℕ) (c : Chip) (s : Seals) : Type 0 where
-  pub inside : s.head < B
-  pub is_head : s.head ≡ head B c
+  pub blocks : s.head.blocks ≡ B
+  pub inside : s.head.block < B
+  pub is_head : s.head.block ≡ head B c
   pub is_first : s.first ≡ sealed c 0
   pub all_of_them : s.count ≡ counted (λ x. sealed c x) B
 
@@ -38,10 +39,13 @@ sealed_below c h = all (λ b. sealed c b) h
 abbrev pub blank_from : Chip → ℕ → ℕ → Bool
 blank_from c p n = all (λ i. not (c.full (p + i))) n
 
--- WHERE THE LOG BEGINS, r blocks after the head h: the places of the blocks from the oldest one, h + 2, up to there say nothing; 0: the chip is no ring with
--- the head h
+-- WHERE THE LOG BEGINS: the chip is a ring with the head h, and the places of the blocks from the oldest one, h + 2, up to block r after the head say nothing
 pub record Begins (B : ℕ) (c : Chip) (h r : ℕ) : Type 0 where
-  pub none : r ≡ 0 → ring_test B c h ≡ false
-  pub ring : 0 < r → ring_test B c h ≡ true
-  pub range : 0 < r → (2 ≤ r) × (r ≤ B)
+  pub ring : ring_test B c h ≡ true
+  pub range : (2 ≤ r) × (r ≤ B)
   pub silent : (s : ℕ) → 15 * (h + 2) ≤ s → s < 15 * (h + r) → c.recs (page_of B s) ≡ nothing
+
+-- it begins there; or the chip is no ring with the head h
+abbrev pub FindsBegin : ℕ → Chip → ℕ → Option ℕ → Type 0
+FindsBegin B c h (Some r) = Begins B c h r
+FindsBegin B c h None = ring_test B c h ≡ false

@@ -5,7 +5,9 @@
 ghost use Rattle.std.specs.Prelude.{not, ◌≡◌, ◌≤◌, ◌<◌, ◌*◌, ◌+◌, ◌-◌, length};
 ghost use Rattle.chip.specs.Chip.{blank_at};
 ghost use Rattle.ring_log.specs.Ring.{chip_of, most_blocks, next_to};
-ghost use Rattle.ring.specs.Seals.{one, head_by, SealsSay, blank_from, Begins};
+ghost use Rattle.ring.specs.Seals.{head_by, SealsSay, blank_from, FindsBegin};
+
+use ring_log::Head;
 
 // Whether block x is sealed.
 fn sealed(chip: &[u8], x: usize) -> bool
@@ -18,17 +20,9 @@ fn sealed(chip: &[u8], x: usize) -> bool
 // What the seals say: the head, whether block 0 is sealed, and how many blocks are.
 #[derive(Clone, Copy)]
 pub struct Seals {
-    pub head: usize,
+    pub head: Head,
     pub first: bool,
     pub count: usize,
-}
-
-// One more, if the block is sealed.
-fn plus(count: usize, sealed: bool) -> usize
-    requires { count ≤ most_blocks }
-    ensures { result ≡ count + one sealed }
-{
-    if sealed { count + 1 } else { count }
 }
 
 // The head, as far as it was found: block x, if it isn't sealed while the one before it is and no such block was passed.
@@ -49,17 +43,22 @@ pub fn look_at_seals(chip: &[u8], b: usize) -> Seals
 {
     let first = sealed(chip, 0);
     let mut head = 0;
-    let mut count = plus(0, first);
+    let mut count = usize::from(first);
     let mut before = first;
-    let mut x = 1;
-    while x < b {
+    for x in 1..b {
         let here = sealed(chip, x);
         head = head_by(head, before, here, x);
-        count = plus(count, here);
+        count += usize::from(here);
         before = here;
-        x += 1;
     }
-    Seals { head, first, count }
+    Seals {
+        head: Head {
+            block: head,
+            blocks: b,
+        },
+        first,
+        count,
+    }
 }
 
 // Whether the pages from this one up to end are blank.
@@ -67,38 +66,32 @@ fn blank_from(chip: &[u8], from: usize, end: usize) -> bool
     requires { (256 * end ≤ length chip.now) × (from ≤ end) }
     ensures { result ≡ blank_from (chip_of chip.now) from (end - from) }
 {
-    let mut p = from;
-    while p < end {
-        if !chip::blank_at(chip, p) {
-            return false;
-        }
-        p += 1;
-    }
-    true
+    (from..end).all(|p| chip::blank_at(chip, p))
 }
 
 // Where the log of the ring with the head h begins, in blocks after h: 2, at the oldest block; in the first round at block 0, since the blocks before it are
-// blank. 0 if the chip is no such ring. All blocks but h and the spare are sealed if so many are; and since no earlier block could be the head, all below h
+// blank. None if the chip is no such ring. All blocks but h and the spare are sealed if so many are; and since no earlier block could be the head, all below h
 // are if block 0 is.
-pub fn find_begin(chip: &[u8], b: usize, seals: Seals) -> usize
-    requires { (4 ≤ b) × (b ≤ most_blocks) × (length chip.now ≡ 4096 * b) × SealsSay b (chip_of chip.now) seals }
-    ensures { Begins b (chip_of chip.now) seals.head result }
+pub fn find_begin(chip: &[u8], seals: Seals) -> Option<usize>
+    requires { (4 ≤ seals.head.blocks) × (seals.head.blocks ≤ most_blocks) × (length chip.now ≡ 4096 * seals.head.blocks) × SealsSay seals.head.blocks (chip_of chip.now) seals }
+    ensures { FindsBegin seals.head.blocks (chip_of chip.now) seals.head.block result }
 {
-    let h = seals.head;
+    let h = seals.head.block;
+    let b = seals.head.blocks;
     if (h == 0) & seals.first {
-        return 0;
+        return None;
     }
-    let spare = ring_log::block_after(h, 1, b);
-    if seals.count + 2 == plus(b, sealed(chip, spare)) {
-        return 2;
+    let spare = seals.head.spare();
+    if seals.count + 2 == b + usize::from(sealed(chip, spare)) {
+        return Some(2);
     }
     if (h != 0) & !seals.first {
-        return 0;
+        return None;
     }
     if !blank_from(chip, 16 * h + 16, 16 * b) {
-        return 0;
+        return None;
     }
-    if h + 2 < b { b - h } else { 2 }
+    Some(if h + 2 < b { b - h } else { 2 })
 }
 
 // The next place of block h: after the last of its places that isn't blank.
@@ -107,12 +100,10 @@ pub fn find_next(chip: &[u8], h: usize) -> usize
     ensures within { result ≤ 15 }
     ensures right { result ≡ next_to (chip_of chip.now) h 15 }
 {
-    let mut next = ring_log::PLACES;
-    while 0 < next {
-        if !chip::blank_at(chip, 16 * h + next - 1) {
-            return next;
+    for j in (0..ring_log::PLACES).rev() {
+        if !chip::blank_at(chip, 16 * h + j) {
+            return j + 1;
         }
-        next -= 1;
     }
     0
 }
