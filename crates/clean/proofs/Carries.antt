@@ -16,16 +16,19 @@ use Rattle.record.proofs.Copy.{anew_length, anew_bytes, anew_says}
 use Rattle.ring_log.specs.Ring.{chip_of}
 use Rattle.ring_log.specs.Call.{Wrote, CutWrote}
 use Rattle.ring_log.proofs.Bytes.{wrote_copy, cut_copy}
-use Rattle.clean.specs.declared.Turn.TheVariants.{On, Dark, Dirty}
+use Rattle.std.specs.Prelude.{Ok, Err}
+use Rattle.chip.specs.Lent.{Writes}
+use Rattle.chip.specs.declared.Halt.{Halt}
+use Rattle.chip.specs.declared.Halt.TheVariants.{Dark, Dirty}
 use Rattle.clean.specs.Steps.{Carries}
 
 module _ (x k j : ℕ) (pg noise c : List ℕ) (f : ℕ) (ix : List ℕ) where
   -- the block has no such place
-  pub carry_full : 15 ≤ k → Carries x k j pg noise c f ix c f ix Dirty
+  pub carry_full : 15 ≤ k → Carries x k j pg noise c f ix c f ix (Err Dirty)
   carry_full l = record { did = did_more (omega arith) (omega arith) (did_none c f); right = λ b. absurd (omega arith) }
 
   -- its page is not blank
-  pub carry_dirty : blank_at c (16 * x + k) ≡ false → Carries x k j pg noise c f ix c f ix Dirty
+  carry_dirty : blank_at c (16 * x + k) ≡ false → Carries x k j pg noise c f ix c f ix (Err Dirty)
   carry_dirty d = record { did = did_more (omega arith) (omega arith) (did_none c f); right = λ b. ap not d }
 
   module _ (c' new : List ℕ) (f' : ℕ) (i : 256 * (16 * x + k) + 256 ≤ length c) (z : blank_at c (16 * x + k) ≡ true) (g : f' ≡ f - 1) (y : length pg ≡ 256) (s : Bytes pg)
@@ -42,7 +45,7 @@ module _ (x k j : ℕ) (pg noise c : List ℕ) (f : ℕ) (ix : List ℕ) where
     same r says = anew_says pg y s ∙ says
 
     -- the power went
-    pub carry_dark : f' ≡ 0 → Carries x k j pg noise c f ix c' f' ix Dark
+    carry_dark : f' ≡ 0 → Carries x k j pg noise c f ix c' f' ix (Err Dark)
     unfolding did did_meant
     carry_dark gone =
         record {
@@ -58,7 +61,7 @@ module _ (x k j : ℕ) (pg noise c : List ℕ) (f : ℕ) (ix : List ℕ) where
         }
 
     -- it stayed: the entry is that of the copy
-    pub carry_on : k < 15 → 0 < f' → (ix' : List ℕ) → ix' ≡ set ix j (16 * x + k) → Carries x k j pg noise c f ix c' f' ix' (On (k + 1))
+    carry_on : k < 15 → 0 < f' → (ix' : List ℕ) → ix' ≡ set ix j (16 * x + k) → Carries x k j pg noise c f ix c' f' ix' (Ok (k + 1))
     unfolding did did_meant
     carry_on room on ix' put =
         record {
@@ -75,3 +78,14 @@ module _ (x k j : ℕ) (pg noise c : List ℕ) (f : ℕ) (ix : List ℕ) where
                     (wrote_copy noise (16 * x + k) c (anew pg) r (same r says) fit);
               };
         }
+
+  -- by what the write answered
+  module _ (c' new : List ℕ) (f' : ℕ) (i : 256 * (16 * x + k) + 256 ≤ length c) (y : length pg ≡ 256) (s : Bytes pg) (u : new ≡ anew pg) where
+    pub carry_halted : (e : Halt) → Writes (16 * x + k) new noise c f c' f' (Err e) → Carries x k j pg noise c f ix c' f' ix (Err e)
+    carry_halted Dark a = carry_dark c' new f' i a.says.0 a.says.2 y s u a.says.1 a.says.3
+    carry_halted Dirty a =
+        subst (λ (d : List ℕ). Carries x k j pg noise c f ix d f' ix (Err Dirty)) (sym a.says.1)
+        (subst (λ (g : ℕ). Carries x k j pg noise c f ix c g ix (Err Dirty)) (sym a.says.2) (carry_dirty a.says.0))
+
+    pub carry_written : Writes (16 * x + k) new noise c f c' f' (Ok tt) → k < 15 → (ix' : List ℕ) → ix' ≡ set ix j (16 * x + k) → Carries x k j pg noise c f ix c' f' ix' (Ok (k + 1))
+    carry_written a room ix' put = carry_on c' new f' i a.says.0 a.says.2 y s u a.says.1 room a.says.3 ix' put

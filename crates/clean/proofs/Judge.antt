@@ -1,5 +1,5 @@
 -- Whether a page of the ring holds a live value: the code asks the index, the theory the rows. Assumes nothing.
-use mathlib.Core.Path.{◌≡◌, refl, sym, ap, ◌∙◌, subst}
+use mathlib.Core.Path.{◌≡◌, sym, ap, ◌∙◌, subst}
 use mathlib.Core.Logic.{◌≢◌, ite}
 use mathlib.Core.Bool.{true, false, not, true≢false}
 use mathlib.Core.List.{List, [], ◌∷◌}
@@ -8,10 +8,10 @@ use Prim.Native.Nat.{ℕ, suc, ◌+◌, ◌-◌, ◌*◌, ◌/◌, ◌%◌, ◌�
 use native.Mathlib.Nat.{mod-eq_of_lt}
 use native.Mathlib.Omega.{arith}
 use lib.ListN.{length, take, get_or, length-take}
-use lib.Seq.{get_or-take}
+use lib.Seq.{get_or-take, take-length}
 use borrow.Author.Tests.{eq-eqb}
-use Rattle.page.specs.Page.{all}
-use Rattle.page.proofs.All.{all_at, all_join, run_fails}
+use Rattle.chip.specs.Chip.{page_at}
+use Rattle.page.proofs.All.{all_at}
 use Rattle.record.specs.Record.{Rec, rec_at, key_at}
 use Rattle.record.proofs.Reading.{some≢none, some_inj, says_key}
 use Rattle.ring_log.specs.Key.{Key, key≟}
@@ -27,15 +27,17 @@ use Rattle.ring_log.proofs.Place.{found_lookup, absent_lookup}
 use Rattle.ring_log.proofs.Index.{pages_length, pages_at, same_place}
 use Rattle.index.specs.Index.{keys_of, Ordered}
 use Rattle.index.specs.Answers.{Finds}
-use Rattle.index.specs.declared.Found.{Found}
-use Rattle.index.specs.declared.Found.TheVariants.{At, Missing}
 use Rattle.index.proofs.Rows.{rows_ordered, nth, length_rows, before, behind}
-use Rattle.clean.specs.declared.Live.TheVariants.{Yes, No}
-use Rattle.clean.specs.Ends.{elsewhere, unlisted, unlisted_run}
+use Rattle.std.specs.Prelude.{Option, Result, Ok, Err, Some, None}
+use Rattle.clean.specs.Ends.{elsewhere, unlisted}
 use Rattle.clean.specs.Steps.{LiveAt, Dead, Judges}
 
 -- the search for the key on page q, whatever else that page says
-module _ (c ix : List ℕ) (n q : ℕ) (k : Key) (own : k ≡ key_at c q) (f : Found) (finds : Ordered c (take n ix) → Finds (keys_of c (take n ix)) k f) where
+module _ (c ix : List ℕ) (q : ℕ) (k : Key) (own : k ≡ key_at c q) (f : Result ℕ ℕ) (finds : Ordered c ix → Finds (keys_of c ix) k f) where
+  -- the index has its live entries alone
+  abbrev n : ℕ
+  n = length ix
+
   -- q is place t
   module _ (B h t s : ℕ) (big : 4 ≤ B) (size : length c ≡ 4096 * B) (low : oldest B (h + B) ≤ t) (l : t < oldest B (h + B) + 15 * B) (top : s ≤ oldest B (h + B) + 15 * B)
       (at : q ≡ page_of B t) (m : take n ix ≡ pages B (run B (rec_at c) (h + B) s)) where
@@ -43,24 +45,26 @@ module _ (c ix : List ℕ) (n q : ℕ) (k : Key) (own : k ≡ key_at c q) (f : F
     rows = run B (rec_at c) (h + B) s
 
     found : Finds (keys_of c (pages B rows)) k f
-    found = subst (λ (p : List ℕ). Finds (keys_of c p) k f) m (finds (subst (Ordered c) (sym m) (rows_ordered B big c size (h + B) s)))
+    found =
+        let w : ix ≡ pages B rows = sym (take-length ix) ∙ m in
+        subst (λ (p : List ℕ). Finds (keys_of c p) k f) w (finds (subst (Ordered c) (sym w) (rows_ordered B big c size (h + B) s)))
 
     -- the row of a record on this page is that of the key
     own_row : (r : Rec) (a : Placed) → rec_at c (page_of B t) ≡ some r → lookup r.key rows ≡ some a → lookup k rows ≡ some a
     own_row r a e d = subst (λ (y : Key). lookup y rows ≡ some a) (sym (own ∙ says_key c q r (ap (rec_at c) at ∙ e))) d
 
     -- it is missing
-    dead_missing : (i : ℕ) → f ≡ Missing i → Dead B c h t s
+    dead_missing : (i : ℕ) → f ≡ Err i → Dead B c h t s
     dead_missing i e r a says live stands =
-        let w : Finds (keys_of c (pages B rows)) k (Missing i) = subst (Finds (keys_of c (pages B rows)) k) e found in
+        let w : Finds (keys_of c (pages B rows)) k (Err i) = subst (Finds (keys_of c (pages B rows)) k) e found in
         let b : i ≤ length rows = omega (arith, w.says.0, length_rows B big c size (h + B) s k) in
         some≢none
         (sym (own_row r a says live)
         ∙ absent_lookup none_there k rows i b (before B big c size (h + B) s k i b w.says.1) (behind B big c size (h + B) s k i w.says.2))
 
     -- it stands at j
-    module _ (j : ℕ) (e : f ≡ At j) (b : j < n) where
-      here : Finds (keys_of c (pages B rows)) k (At j)
+    module _ (j : ℕ) (e : f ≡ Ok j) (b : j < n) where
+      here : Finds (keys_of c (pages B rows)) k (Ok j)
       here = subst (Finds (keys_of c (pages B rows)) k) e found
 
       inside : j < length rows
@@ -99,34 +103,17 @@ module _ (c ix : List ℕ) (n q : ℕ) (k : Key) (own : k ≡ key_at c q) (f : F
           d (page ∙ ap (λ (y : Placed). page_of B y.0) (some_inj (sym row ∙ own_row r a says live)) ∙ ap (page_of B) stands ∙ sym at)
 
   -- ---- WHAT THE CODE ANSWERS of page q
-  pub judge_missing : (i : ℕ) → f ≡ Missing i → Judges c ix n q No
+  pub judge_missing : (i : ℕ) → f ≡ Err i → Judges c ix n q None
   judge_missing i e = record { one = λ B h t s big size low l top at m. dead_missing B h t s big size low l top at m i e }
 
-  module _ (j : ℕ) (e : f ≡ At j) (b : j < n) where
-    pub judge_here : get_or ix j 0 ≡ q → Judges c ix n q (Yes j)
+  module _ (j : ℕ) (e : f ≡ Ok j) (b : j < n) where
+    pub judge_here : get_or ix j 0 ≡ q → Judges c ix n q (Some j)
     judge_here d = record { one = λ B h t s big size low l top at m. live_here B h t s big size low l top at m j e b d }
 
-    pub judge_elsewhere : get_or ix j 0 ≢ q → Judges c ix n q No
+    pub judge_elsewhere : get_or ix j 0 ≢ q → Judges c ix n q None
     judge_elsewhere d = record { one = λ B h t s big size low l top at m. dead_elsewhere B h t s big size low l top at m j e b d }
 
 -- ---- A BLOCK WITHOUT ENTRIES
-
--- run by run
-module _ (x : ℕ) (ix : List ℕ) where
-  pub unlisted_none : unlisted x ix 0 ≡ true
-  unfolding unlisted all
-  unlisted_none = refl
-
-  pub unlisted_more : (j m : ℕ) → unlisted x ix j ≡ true → unlisted_run x ix j m ≡ true → unlisted x ix (j + m) ≡ true
-  unfolding unlisted unlisted_run
-  unlisted_more j m = all_join (λ i. elsewhere x (get_or ix i 0)) j m
-
-  pub unlisted_all : (j n : ℕ) → j ≡ n → unlisted x ix j ≡ true → true ≡ unlisted x ix n
-  unlisted_all j n e h = sym (ap (unlisted x ix) (sym e) ∙ h)
-
-  pub unlisted_fails : (j m n : ℕ) → j + m ≤ n → unlisted_run x ix j m ≡ false → false ≡ unlisted x ix n
-  unfolding unlisted unlisted_run
-  unlisted_fails j m n l e = sym (run_fails (λ i. elsewhere x (get_or ix i 0)) j m n l e)
 
 module _ (B : ℕ) where
   -- page p stands in the index of the rows m
@@ -145,7 +132,7 @@ module _ (B : ℕ) where
 
 -- a page of it holds no live value
 module _ (c ix : List ℕ) (n q x : ℕ) (u : unlisted x ix n ≡ true) (b : q / 16 ≡ x) where
-  pub judge_unlisted : Judges c ix n q No
+  pub judge_unlisted : Judges c ix n q None
   unfolding unlisted
   judge_unlisted =
       record {
@@ -168,3 +155,11 @@ dead_unused B big c h i s l ring u r a says live stands =
     let f = round_first B big (chip_of c) h ring u in
     let w : (h + 2) % B ≡ h + 2 = mod-eq_of_lt f.0 in
     some≢none (sym says ∙ (chip_of c).honest (page_of B t) (f.1.above (page_of B t) (omega (arith, b, w)) (omega (arith, b, w, f.0))))
+
+-- ---- WHAT WAS READ, by another name of the bytes
+module _ {c d : List ℕ} (e : d ≡ c) where
+  pub judged_at : {ix : List ℕ} {n q : ℕ} {r : Option ℕ} → Judges d ix n q r → Judges c ix n q r
+  judged_at {ix} {n} {q} {r} x = subst (λ (b : List ℕ). Judges b ix n q r) e x
+
+  pub page_read : (q : ℕ) {pg : List ℕ} → pg ≡ page_at d q → pg ≡ page_at c q
+  page_read q x = x ∙ ap (λ (b : List ℕ). page_at b q) e

@@ -22,10 +22,9 @@ use Rattle.ring_log.proofs.Opening.{copy_blank}
 use Rattle.ring_log.proofs.Crash.{skip_done, written_at, live_what, copy_done}
 use Rattle.ring_log.proofs.IndexSteps.{copy_replaces}
 use Rattle.ring_log.proofs.Walk.{leads_none, leads_then, leads_cut, leads_skip, leads_copy, cut_copied}
-use Rattle.clean.specs.declared.Live.{Live}
-use Rattle.clean.specs.declared.Live.TheVariants.{Yes, No}
-use Rattle.clean.specs.declared.Turn.{Turn}
-use Rattle.clean.specs.declared.Turn.TheVariants.{On, Dark, Dirty}
+use Rattle.std.specs.Prelude.{Option, Some, None, Result, Ok, Err}
+use Rattle.chip.specs.declared.Halt.{Halt}
+use Rattle.chip.specs.declared.Halt.TheVariants.{Dark, Dirty}
 use Rattle.clean.specs.Ends.{unlisted}
 use Rattle.clean.specs.Steps.{Midway, midway, LiveAt, Dead, JudgesBy, Judges, TurnsBy, Turns, Carried, Broken, CarriesBy, Carries}
 use Rattle.clean.proofs.Judge.{judge_unlisted, dead_unused}
@@ -49,7 +48,7 @@ module _ (B : ℕ) (big : 4 ≤ B) (noise c ix : List ℕ) (size : length c ≡ 
   s = fresh B h + k
 
   -- it has no live value
-  pub look_dead : ((c₀ : Chip) → Midway B c ix n h c₀ t s → Dead B c h t s) → Turns B n h i 1 k noise c f ix c f ix (On k)
+  pub look_dead : ((c₀ : Chip) → Midway B c ix n h c₀ t s → Dead B c h t s) → Turns B n h i 1 k noise c f ix c f ix (Ok k)
   unfolding did_more did_none
   look_dead dead =
       record {
@@ -70,15 +69,15 @@ module _ (B : ℕ) (big : 4 ≤ B) (noise c ix : List ℕ) (size : length c ≡ 
     at = e ∙ sym (oldest_page B h i l)
 
     -- what was judged of the page is so of the place
-    judged : (r : Live) → Judges c ix n q r → (c₀ : Chip) → Midway B c ix n h c₀ t s → JudgesBy B c h t s r
+    judged : (r : Option ℕ) → Judges c ix n q r → (c₀ : Chip) → Midway B c ix n h c₀ t s → JudgesBy B c h t s r
     judged r d c₀ m = d.one B h t s big size (omega arith) (omega arith) (omega (arith, m.opening.fewer)) at m.rows
 
     -- it has none
-    pub look_on : Judges c ix n q No → Turns B n h i 1 k noise c f ix c f ix (On k)
-    look_on d = look_dead (judged No d)
+    pub look_on : Judges c ix n q None → Turns B n h i 1 k noise c f ix c f ix (Ok k)
+    look_on d = look_dead (judged None d)
 
     -- it has one, whose page is pg: it is copied to the block x, the spare
-    module _ (j x : ℕ) (pg : List ℕ) (low : j < n) (spares : x ≡ spare B h) (u : pg ≡ page_at c q) (d : Judges c ix n q (Yes j)) where
+    module _ (j x : ℕ) (pg : List ℕ) (low : j < n) (spares : x ≡ spare B h) (u : pg ≡ page_at c q) (d : Judges c ix n q (Some j)) where
       -- its page says what its place says
       says : (r : Rec) → rec_at c (page_of B t) ≡ some r → rec_of pg ≡ some r
       unfolding rec_at
@@ -95,7 +94,7 @@ module _ (B : ℕ) (big : 4 ≤ B) (noise c ix : List ℕ) (size : length c ≡ 
 
         -- the value
         live : LiveAt B c h t s j
-        live = judged (Yes j) d c₀ m
+        live = judged (Some j) d c₀ m
 
         -- its place is blank
         never_dirty : (k < 15 → (chip_of c).full (16 * x + k) ≡ true) → ⊥
@@ -111,7 +110,7 @@ module _ (B : ℕ) (big : 4 ≤ B) (noise c ix : List ℕ) (size : length c ≡ 
             (cut_copied B h c₀ (chip_of c) t s (omega arith) (chip_of c') a1.rec a1.row (anew pg) a1.says a1.live a1.stands v)
 
         -- it stayed: the entry is that of the copy
-        stayed : (c' ix' : List ℕ) (f' o : ℕ) (ops : List Op) → Carried x k j pg c c' f' ix ix' ops o → TurnsBy B n h c₀ i 1 k c c' f' ix' ops (On o)
+        stayed : (c' ix' : List ℕ) (f' o : ℕ) (ops : List Op) → Carried x k j pg c c' f' ix ix' ops o → TurnsBy B n h c₀ i 1 k c c' f' ix' ops (Ok o)
         stayed c' ix' f' o ops a =
             let a1 = live in
             let v : Wrote (page_of B s) (some a1.rec) (chip_of c) (chip_of c') =
@@ -139,23 +138,23 @@ module _ (B : ℕ) (big : 4 ≤ B) (noise c ix : List ℕ) (size : length c ≡ 
             )
 
       -- one of these
-      pub look_carried : (c' ix' : List ℕ) (f' : ℕ) (r : Turn) → Carries x k j pg noise c f ix c' f' ix' r → Turns B n h i 1 k noise c f ix c' f' ix' r
+      pub look_carried : (c' ix' : List ℕ) (f' : ℕ) (r : Result ℕ Halt) → Carries x k j pg noise c f ix c' f' ix' r → Turns B n h i 1 k noise c f ix c' f' ix' r
       look_carried c' ix' f' r a = record { did = a.did; right = λ c₀ lit m. go c₀ lit m r a.did.ops a.right }
         where
-          go : (c₀ : Chip) → 0 < f → Midway B c ix n h c₀ t s → (r : Turn) (ops : List Op) → CarriesBy x k j pg c f ix c' f' ix' ops r → TurnsBy B n h c₀ i 1 k c c' f' ix' ops r
-          go c₀ lit m (On o) ops w = stayed c₀ m c' ix' f' o ops w
-          go c₀ lit m Dark ops w = (w.out, went c₀ m c' f' ops lit w)
-          go c₀ lit m Dirty ops w = never_dirty c₀ m w
+          go : (c₀ : Chip) → 0 < f → Midway B c ix n h c₀ t s → (r : Result ℕ Halt) (ops : List Op) → CarriesBy x k j pg c f ix c' f' ix' ops r → TurnsBy B n h c₀ i 1 k c c' f' ix' ops r
+          go c₀ lit m (Ok o) ops w = stayed c₀ m c' ix' f' o ops w
+          go c₀ lit m (Err Dark) ops w = (w.out, went c₀ m c' f' ops lit w)
+          go c₀ lit m (Err Dirty) ops w = never_dirty c₀ m w
 
 -- ---- ONE AFTER ANOTHER
 module _ (B n h : ℕ) (noise c : List ℕ) (f : ℕ) (ix : List ℕ) where
   -- none yet
-  pub turns_none : Turns B n h 0 0 0 noise c f ix c f ix (On 0)
+  pub turns_none : Turns B n h 0 0 0 noise c f ix c f ix (Ok 0)
   unfolding did_none
   turns_none = record { did = did_none c f; right = λ c₀ lit m. (lit, m, leads_none B (midway B c h c₀ 0 0)) }
 
-  module _ (i j k : ℕ) (d ix₁ : List ℕ) (g m : ℕ) (x : Turns B n h i j k noise c f ix d g ix₁ (On m)) where
-    turns_then : (j' : ℕ) (e ix₂ : List ℕ) (l : ℕ) (r : Turn) → Turns B n h (i + j) j' m noise d g ix₁ e l ix₂ r → Turns B n h i (j + j') k noise c f ix e l ix₂ r
+  module _ (i j k : ℕ) (d ix₁ : List ℕ) (g m : ℕ) (x : Turns B n h i j k noise c f ix d g ix₁ (Ok m)) where
+    turns_then : (j' : ℕ) (e ix₂ : List ℕ) (l : ℕ) (r : Result ℕ Halt) → Turns B n h (i + j) j' m noise d g ix₁ e l ix₂ r → Turns B n h i (j + j') k noise c f ix e l ix₂ r
     unfolding did_then
     turns_then j' e ix₂ l r y =
         record {
@@ -163,48 +162,50 @@ module _ (B n h : ℕ) (noise c : List ℕ) (f : ℕ) (ix : List ℕ) where
           right = λ c₀ lit w. let p = x.right c₀ lit w in go c₀ x.did.ops y.did.ops p.2 r (y.right c₀ p.0 p.1);
         }
       where
-        go : (c₀ : Chip) (os ps : List Op) → Leads B (midway B c h c₀ i k) (midway B d h c₀ (i + j) m) os → (r : Turn) → TurnsBy B n h c₀ (i + j) j' m d e l ix₂ ps r
+        go : (c₀ : Chip) (os ps : List Op) → Leads B (midway B c h c₀ i k) (midway B d h c₀ (i + j) m) os → (r : Result ℕ Halt) → TurnsBy B n h c₀ (i + j) j' m d e l ix₂ ps r
             → TurnsBy B n h c₀ i (j + j') k c e l ix₂ (os ++ ps) r
-        go c₀ os ps a (On u) q =
+        go c₀ os ps a (Ok u) q =
             let z : i + j + j' ≡ i + (j + j') = omega arith in (
               q.0,
               subst (λ (v : ℕ). Midway B e ix₂ n h c₀ (oldest B (h + B) + v) (fresh B h + u)) z q.1,
               subst (λ (v : ℕ). Leads B (midway B c h c₀ i k) (midway B e h c₀ v u) (os ++ ps)) z (leads_then B a q.2),
             )
-        go c₀ os ps a Dark q = (q.0, leads_cut B a q.1)
-        go c₀ os ps a Dirty q = q
+        go c₀ os ps a (Err Dark) q = (q.0, leads_cut B a q.1)
+        go c₀ os ps a (Err Dirty) q = q
 
-  -- one place more
-  pub turns_next : (j : ℕ) (d ix₁ : List ℕ) (g m : ℕ) → Turns B n h 0 j 0 noise c f ix d g ix₁ (On m) → (e ix₂ : List ℕ) (l : ℕ) (r : Turn)
-      → Turns B n h j 1 m noise d g ix₁ e l ix₂ r → Turns B n h 0 (j + 1) 0 noise c f ix e l ix₂ r
-  turns_next j d ix₁ g m x e ix₂ l r y =
+  -- one place more, with n by the entries that there are then, and the noise by the chip that is lent then
+  pub turns_next : (j : ℕ) (d ix₁ : List ℕ) (g m : ℕ) → Turns B n h 0 j 0 noise c f ix d g ix₁ (Ok m) → (e ix₂ : List ℕ) (l o : ℕ) (noise₁ : List ℕ) (r : Result ℕ Halt) → o ≡ n → noise₁ ≡ noise
+      → Turns B o h j 1 m noise₁ d g ix₁ e l ix₂ r → Turns B n h 0 (j + 1) 0 noise c f ix e l ix₂ r
+  turns_next j d ix₁ g m x e ix₂ l o noise₁ r same loud y =
       let z : j ≡ 0 + j = omega arith in
-      turns_then 0 j 0 d ix₁ g m x 1 e ix₂ l r (subst (λ (v : ℕ). Turns B n h v 1 m noise d g ix₁ e l ix₂ r) z y)
+      turns_then 0 j 0 d ix₁ g m x 1 e ix₂ l r
+      (subst (λ (v : ℕ). Turns B n h v 1 m noise d g ix₁ e l ix₂ r) z
+      (subst (λ (v : List ℕ). Turns B n h j 1 m v d g ix₁ e l ix₂ r) loud (subst (λ (v : ℕ). Turns B v h j 1 m noise₁ d g ix₁ e l ix₂ r) same y)))
 
   -- where it ended early, with a larger bound
   module _ (i j j' k : ℕ) (l : j ≤ j') (c' ix' : List ℕ) (f' : ℕ) where
-    pub turns_dark : Turns B n h i j k noise c f ix c' f' ix' Dark → Turns B n h i j' k noise c f ix c' f' ix' Dark
+    pub turns_halted : (e : Halt) → Turns B n h i j k noise c f ix c' f' ix' (Err e) → Turns B n h i j' k noise c f ix c' f' ix' (Err e)
     unfolding did_more
-    turns_dark x = record { did = did_more (omega arith) l x.did; right = x.right }
-
-    pub turns_dirty : Turns B n h i j k noise c f ix c' f' ix' Dirty → Turns B n h i j' k noise c f ix c' f' ix' Dirty
-    unfolding did_more
-    turns_dirty x = record { did = did_more (omega arith) l x.did; right = x.right }
+    turns_halted e x = record { did = did_more (omega arith) l x.did; right = λ c₀ lit m. go c₀ e (x.right c₀ lit m) }
+      where
+        go : (c₀ : Chip) (e : Halt) → TurnsBy B n h c₀ i j k c c' f' ix' x.did.ops (Err e) → TurnsBy B n h c₀ i j' k c c' f' ix' x.did.ops (Err e)
+        go c₀ Dark y = y
+        go c₀ Dirty y = y
 
   -- all of them
-  pub turns_all : (i j j' k : ℕ) (e : j ≡ j') (c' ix' : List ℕ) (f' : ℕ) (r : Turn) → Turns B n h i j k noise c f ix c' f' ix' r → Turns B n h i j' k noise c f ix c' f' ix' r
+  pub turns_all : (i j j' k : ℕ) (e : j ≡ j') (c' ix' : List ℕ) (f' : ℕ) (r : Result ℕ Halt) → Turns B n h i j k noise c f ix c' f' ix' r → Turns B n h i j' k noise c f ix c' f' ix' r
   turns_all i j j' k e c' ix' f' r x = subst (λ (y : ℕ). Turns B n h i y k noise c f ix c' f' ix' r) e x
 
 -- ---- A BLOCK WITHOUT LIVE VALUES: nothing is done
 module _ (B : ℕ) (big : 4 ≤ B) (noise c ix : List ℕ) (size : length c ≡ 4096 * B) (f n h : ℕ) where
-  turns_dead : ((i : ℕ) → i < 15 → Turns B n h i 1 0 noise c f ix c f ix (On 0)) → (i : ℕ) → i ≤ 15 → Turns B n h 0 i 0 noise c f ix c f ix (On 0)
+  turns_dead : ((i : ℕ) → i < 15 → Turns B n h i 1 0 noise c f ix c f ix (Ok 0)) → (i : ℕ) → i ≤ 15 → Turns B n h 0 i 0 noise c f ix c f ix (Ok 0)
   turns_dead dead zero l = turns_none B n h noise c f ix
   turns_dead dead (suc i) l =
-      subst (λ (y : ℕ). Turns B n h 0 y 0 noise c f ix c f ix (On 0)) (add-one i)
-      (turns_next B n h noise c f ix i c ix f 0 (turns_dead dead i (omega arith)) c ix f (On 0) (dead i (omega arith)))
+      subst (λ (y : ℕ). Turns B n h 0 y 0 noise c f ix c f ix (Ok 0)) (add-one i)
+      (turns_next B n h noise c f ix i c ix f 0 (turns_dead dead i (omega arith)) c ix f n noise (Ok 0) refl refl (dead i (omega arith)))
 
   -- the index has no page of it
-  pub turns_unlisted : (x : ℕ) → x ≡ (h + 2) % B → unlisted x ix n ≡ true → Turns B n h 0 15 0 noise c f ix c f ix (On 0)
+  pub turns_unlisted : (x : ℕ) → x ≡ (h + 2) % B → unlisted x ix n ≡ true → Turns B n h 0 15 0 noise c f ix c f ix (Ok 0)
   turns_unlisted x e u =
       turns_dead
       (λ i l.
@@ -212,6 +213,6 @@ module _ (B : ℕ) (big : 4 ≤ B) (noise c ix : List ℕ) (size : length c ≡ 
       15 (omega arith)
 
   -- it isn't sealed
-  pub turns_unused : sealed (chip_of c) ((h + 2) % B) ≡ false → Turns B n h 0 15 0 noise c f ix c f ix (On 0)
+  pub turns_unused : sealed (chip_of c) ((h + 2) % B) ≡ false → Turns B n h 0 15 0 noise c f ix c f ix (Ok 0)
   turns_unused u =
       turns_dead (λ i l. look_dead B big noise c ix size f n h i 0 l (λ c₀ m. dead_unused B big c h i (fresh B h + 0) l m.opening.ring u)) 15 (omega arith)

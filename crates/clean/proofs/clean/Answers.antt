@@ -1,28 +1,37 @@
 use mathlib.Core.Path.{refl, sym, ◌∙◌}
 use Prim.Native.Nat.{◌+◌}
 use native.Mathlib.Omega.{arith}
-use Rattle.clean.proofs.Runs.{sane_moved}
-use Rattle.clean.proofs.Turns.{turns_unlisted, turns_none, turns_next, turns_dark, turns_dirty, turns_all}
+use Rattle.std.proofs.lemmas.Result.{err_from_is_err_and}
+use Rattle.clean.proofs.Runs.{same_none, same_then, same_noise, sane_moved}
+use Rattle.clean.proofs.Turns.{turns_unlisted, turns_none, turns_next, turns_halted, turns_all}
 use borrow.Author.Rules.{rules}
 use Rattle.clean.proofs.clean.Goals as goal
 
 pub returns-then-is_unlisted : goal.returns-then-is_unlisted
-returns-then-is_unlisted c = record { right = turns_unlisted _ c.requires.some_blocks _ _ _ c.requires.size _ _ _ _ c.block_after.ensures.0 (sym c.is_unlisted.ensures ∙ c.if-is_unlisted.true); few = search rules }
+returns-then-is_unlisted c = record { same = same_none _; right = turns_unlisted _ c.requires.some_blocks _ _ _ c.requires.size _ _ _ _ c.oldest.ensures.0 (sym c.is_unlisted.ensures ∙ c.if-is_unlisted.true); few = search rules }
 
 pub loop-i-init : goal.loop-i-init
-loop-i-init c = (omega arith, omega arith, refl, refl, turns_none _ _ _ _ _ _ _)
+loop-i-init c = record { few = omega arith; same = same_none _; entries = refl; turns = turns_none _ _ _ _ _ _ _ }
 
 pub look_at-requires : goal.look_at-requires
-look_at-requires c = record { sane = sane_moved _ _ _ _ _ _ _ _ _ c.requires c.loop-i.invariant.2 c.loop-i.invariant.3 c.requires.inside; places = search rules }
+look_at-requires c = record { sane = sane_moved _ _ _ _ _ c.loop-i.invariant.same c.requires c.requires.inside; places = search rules }
 
-pub returns-in-Dark : goal.returns-in-Dark
-returns-in-Dark c = record { right = turns_dark _ _ _ _ _ _ _ _ (c.loop-i.i + 1) _ _ (omega arith) _ _ _ (turns_next _ _ _ _ _ _ _ c.loop-i.i _ _ _ _ c.loop-i.invariant.4 _ _ _ _ (c.in-Dark.ensures.right)); few = search rules }
-
-pub returns-in-Dirty : goal.returns-in-Dirty
-returns-in-Dirty c = record { right = turns_dirty _ _ _ _ _ _ _ _ (c.loop-i.i + 1) _ _ (omega arith) _ _ _ (turns_next _ _ _ _ _ _ _ c.loop-i.i _ _ _ _ c.loop-i.invariant.4 _ _ _ _ (c.in-Dirty.ensures.right)); few = search rules }
+pub returns-in_err-k : goal.returns-in_err-k
+returns-in_err-k c =
+    let p = err_from_is_err_and c.from_residual.result c.from_residual.ensures.1 in
+    let v = c.loop-i.invariant in
+    let w = turns_next _ _ _ _ _ _ _ c.loop-i.i _ _ _ _ v.turns _ _ _ _ _ _ v.entries (same_noise v.same) c.in_err-k.ensures.right in
+    rw (p.1, p.2) (record { same = same_then v.same c.look_at.ensures.same; right = turns_halted _ _ _ _ _ _ _ _ (c.loop-i.i + 1) _ _ (omega arith) _ _ _ _ w; few = search rules })
 
 pub loop-i-preserved : goal.loop-i-preserved
-loop-i-preserved c = (search rules, c.in-On.ensures.few, c.look_at.auto.chip ∙ c.loop-i.invariant.2, c.look_at.auto.index ∙ c.loop-i.invariant.3, turns_next _ _ _ _ _ _ _ c.loop-i.i _ _ _ _ c.loop-i.invariant.4 _ _ _ _ (c.in-On.ensures.right))
+loop-i-preserved c =
+    let v = c.loop-i.invariant in
+    record {
+      few = c.in_ok-k.ensures.few;
+      same = same_then v.same c.look_at.ensures.same;
+      entries = c.look_at.auto.index ∙ v.entries;
+      turns = turns_next _ _ _ _ _ _ _ c.loop-i.i _ _ _ _ v.turns _ _ _ _ _ _ v.entries (same_noise v.same) c.in_ok-k.ensures.right;
+    }
 
 pub returns : goal.returns
-returns c = record { right = turns_all _ _ _ _ _ _ _ 0 c.loop-i.i _ _ (omega arith) _ _ _ _ c.loop-i.invariant.4; few = c.loop-i.invariant.1 }
+returns c = record { same = c.loop-i.invariant.same; right = turns_all _ _ _ _ _ _ _ 0 c.loop-i.i _ _ (omega arith) _ _ _ _ c.loop-i.invariant.turns; few = c.loop-i.invariant.few }

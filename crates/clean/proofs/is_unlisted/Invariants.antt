@@ -1,12 +1,9 @@
--- `clean::is_unlisted` meets its contract. The invariant: the entries of the runs passed are all of other blocks. Assumes nothing.
+-- `clean::is_unlisted` meets its contract. The invariant: the entries passed are all of other blocks, so that those left tell. Assumes nothing.
 use mathlib.Core.Path.{◌≡◌}
-use mathlib.Core.Bool.{true}
-use Prim.Native.Nat.{◌≤◌, ◌-◌}
-use Rattle.clean.specs.Ends.{unlisted}
+use Rattle.std.specs.List.{list_all}
+use Rattle.clean.specs.Ends.{elsewhere}
 use Rattle.clean.proofs.is_unlisted.Given as goal
 
-abbrev pub invariant-loop-j : goal.invariant-loop-j
-invariant-loop-j l = (l.j ≤ l.n) × (unlisted l.x l.index l.j ≡ true)
-
-abbrev pub decreases-loop-j : goal.decreases-loop-j
-decreases-loop-j l = l.n - l.j
+abbrev pub invariant-loop-run : goal.invariant-loop-run
+invariant-loop-run l =
+    list_all (elsewhere l.x) l.index ≡ list_all (elsewhere l.x) l.run-iterator.rest.now
