@@ -1,36 +1,43 @@
-use mathlib.Core.Path.{◌≡◌, refl, sym, ◌∙◌}
-use Prim.Native.Nat.{ℕ, ◌≤◌, ◌<◌}
+use mathlib.Core.Path.{refl, ap, ◌∙◌}
+use Prim.Native.Nat.{ℕ, ◌+◌, ◌%◌}
 use native.Mathlib.Omega.{arith}
-use Rattle.clean.proofs.Runs.{sane_moved}
-use Rattle.opening.proofs.Opens.{going_none, going_at, going_on, going_dark, going_dirty, room_found, room_none}
+use Rattle.std.proofs.lemmas.Result.{err_from_is_err_and}
+use Rattle.clean.proofs.Runs.{same_none, same_then, same_noise}
+use Rattle.opening.proofs.Opens.{opens_at, going_none, going_on, going_halted, room_found, room_none}
 use Rattle.opening.proofs.make_room.Goals as goal
 
-pub loop-more-init : goal.loop-more-init
-loop-more-init c = (omega arith, omega arith, c.requires.inside, refl, refl, λ e. refl, omega arith, λ w. w, λ big. going_none _ big _ _ _ _ _ _ _ _)
+pub loop-init : goal.loop-init
+loop-init c = record { full = refl; head = c.requires.inside; blocks = refl; left = omega arith; passed = λ w. w; same = same_none _; entries = refl; going = λ big. going_none _ big _ _ _ _ _ _ _ _ }
 
-pub returns-then-next-lt-PLACES : goal.returns-then-next-lt-PLACES
-returns-then-next-lt-PLACES c = record { right = room_found _ c.requires.some_blocks _ _ _ _ _ _ _ _ _ _ _ _ _ _ _ _ c.loop-more.invariant.0 (c.loop-more.invariant.8 c.requires.some_blocks) (fewer c.loop-more.invariant.0 (λ e. omega (arith, c.loop-more.invariant.5 e, c.if-next-lt-PLACES.true))); within = record { says = (c.loop-more.invariant.2, omega (arith, c.if-next-lt-PLACES.true), c.loop-more.invariant.6, c.loop-more.invariant.7) } }
-  where
-    fewer : {m k : ℕ} → m ≤ k → (m ≡ k → ⊥) → m < k
-    fewer a f = omega arith
+pub returns-in_err-open_next-clause-right : goal.returns-in_err-open_next-clause-right
+returns-in_err-open_next-clause-right c =
+    let big = c.requires.some_blocks in
+    let v = c.loop.invariant in
+    let p = err_from_is_err_and c.from_residual.result c.from_residual.ensures.1 in
+    rw (p.1, p.2) (going_halted _ big _ _ _ _ _ _ _ _ _ _ _ _ _ _ _ _ (omega arith) (omega arith) (v.going big) _ _ _ _ (opens_at v.blocks v.entries (same_noise v.same) c.in_err-open_next.ensures.right))
 
-pub open_next-requires : goal.open_next-requires
-open_next-requires c = sane_moved _ _ _ _ _ _ _ _ _ c.requires c.loop-more.invariant.3 c.loop-more.invariant.4 c.loop-more.invariant.2
+pub returns-then-place-lt-PLACES-clause-right : goal.returns-then-place-lt-PLACES-clause-right
+returns-then-place-lt-PLACES-clause-right c =
+    let big = c.requires.some_blocks in
+    let v = c.loop.invariant in
+    room_found _ big _ _ _ _ _ _ _ _ _ _ _ (c.loop.counter + 1) _ (omega arith) (omega arith) (going_on _ big _ _ _ _ _ _ _ _ _ _ _ _ _ _ _ _ (omega arith) (omega arith) (v.going big) _ _ _ _ _ _ _ (c.next.ensures.0 ∙ ap (λ (b : ℕ). (c.loop.place.head.block + 1) % b) v.blocks) c.back.ensures c.fewer.ensures (opens_at v.blocks v.entries (same_noise v.same) c.in_ok-open_next.ensures.right))
 
-pub returns-in-Dark : goal.returns-in-Dark
-returns-in-Dark c = record { right = going_dark _ c.requires.some_blocks _ _ _ _ _ _ _ _ _ _ _ _ _ _ _ _ (omega arith) c.loop-more.invariant.0 (omega arith) (c.loop-more.invariant.8 c.requires.some_blocks) _ _ _ (c.in-Dark.ensures.right); within = record { says = tt } }
+pub loop-preserved : goal.loop-preserved
+loop-preserved c =
+    let v = c.loop.invariant in
+    record {
+      full = omega (arith, c.in_ok-open_next.ensures.few);
+      head = omega (arith, v.blocks, c.next.ensures.1);
+      blocks = c.next.ensures.2 ∙ v.blocks;
+      left = omega (arith, v.left, c.fewer.ensures);
+      passed = λ w. omega (arith, v.passed w, c.back.ensures);
+      same = same_then v.same c.open_next.ensures.same;
+      entries = c.open_next.auto.index ∙ v.entries;
+      going = λ big. going_on _ big _ _ _ _ _ _ _ _ _ _ _ _ _ _ _ _ (omega arith) (omega arith) (v.going big) _ _ _ _ _ _ _ (c.next.ensures.0 ∙ ap (λ (b : ℕ). (c.loop.place.head.block + 1) % b) v.blocks) c.back.ensures c.fewer.ensures (opens_at v.blocks v.entries (same_noise v.same) c.in_ok-open_next.ensures.right);
+    }
 
-pub returns-in-Dirty : goal.returns-in-Dirty
-returns-in-Dirty c = record { right = going_dirty _ c.requires.some_blocks _ _ _ _ _ _ _ _ _ _ _ _ _ _ _ _ (omega arith) c.loop-more.invariant.0 (omega arith) (c.loop-more.invariant.8 c.requires.some_blocks) _ _ _ (c.in-Dirty.ensures.right); within = record { says = tt } }
-
-pub block_after-h-requires : goal.block_after-h-requires
-block_after-h-requires c = (c.loop-more.invariant.2, omega arith, c.requires.few_blocks, c.requires.some_blocks)
-
-pub loop-more-preserved : goal.loop-more-preserved
-loop-more-preserved c = (omega (arith, c.loop-more.invariant.0), c.in-On.ensures.few, c.block_after-h.ensures.1, c.open_next.auto.chip ∙ c.loop-more.invariant.3, c.open_next.auto.index ∙ c.loop-more.invariant.4, λ e. absurd (omega (arith, c.loop-more.invariant.0)), omega (arith, c.loop-more.invariant.6, c.fewer-left.ensures), λ w. omega (arith, c.loop-more.invariant.7 w, c.back-passed.ensures), λ big. going_at _ big _ _ _ _ _ _ _ _ _ _ _ _ _ _ _ _ _ _ _ (sym c.block_after-h.ensures.0) (sym c.back-passed.ensures) (sym c.fewer-left.ensures) (going_on _ big _ _ _ _ _ _ _ _ _ _ _ _ _ _ _ _ (omega arith) c.loop-more.invariant.0 (omega arith) (c.loop-more.invariant.8 big) _ _ _ _ (c.in-On.ensures.right)))
-
-pub returns-then-next-lt-PLACES-2 : goal.returns-then-next-lt-PLACES-2
-returns-then-next-lt-PLACES-2 c = record { right = room_found _ c.requires.some_blocks _ _ _ _ _ _ _ _ _ _ _ _ _ _ _ _ c.loop-more.invariant.0 (c.loop-more.invariant.8 c.requires.some_blocks) (omega (arith, c.requires.some_blocks)); within = record { says = (c.loop-more.invariant.2, omega (arith, c.if-next-lt-PLACES-2.true), c.loop-more.invariant.6, c.loop-more.invariant.7) } }
-
-pub returns : goal.returns
-returns c = record { right = room_none _ c.requires.some_blocks _ _ _ _ _ _ _ _ _ _ _ _ _ _ _ _ c.loop-more.invariant.0 (c.loop-more.invariant.8 c.requires.some_blocks) (omega arith) (omega arith); within = record { says = tt } }
+pub returns-clause-right : goal.returns-clause-right
+returns-clause-right c =
+    let big = c.requires.some_blocks in
+    let v = c.loop.invariant in
+    room_none _ big _ _ _ _ _ _ _ _ _ _ _ _ _ _ _ _ (omega arith) (omega arith) (v.going big)
