@@ -24,10 +24,9 @@ use Rattle.ring_log.proofs.Append.{place}
 use Rattle.ring_log.proofs.Crash.{append_written}
 use Rattle.ring_log.proofs.Carry.{carry_map, carry_replaces, carry_ready}
 use Rattle.ring_log.proofs.Walk.{goes_pass, goes_carry, ends_carry}
-use Rattle.clean.specs.declared.Live as live
-use Rattle.clean.specs.declared.Live.TheVariants.{Yes, No}
-use Rattle.clean.specs.declared.Turn.{Turn}
-use Rattle.clean.specs.declared.Turn.TheVariants.{On, Dark, Dirty}
+use Rattle.std.specs.Prelude.{Option, Some, None, Result, Ok, Err}
+use Rattle.chip.specs.declared.Halt.{Halt}
+use Rattle.chip.specs.declared.Halt.TheVariants.{Dark, Dirty}
 use Rattle.clean.specs.Steps.{LiveAt, JudgesBy, Judges, Carried, Broken, CarriesBy, Carries}
 use Rattle.sweep.specs.Ends.{OneMore}
 use Rattle.sweep.specs.Steps.{Went, PassesBy, Passes}
@@ -43,13 +42,12 @@ log_page B h p x e =
     ∙ ap (page_of B) z
 
 -- a carry uses one page of the head
-pub carried_one : (x k j : ℕ) (pg noise c : List ℕ) (f : ℕ) (ix c' : List ℕ) (f' : ℕ) (ix' : List ℕ) (r : Turn) → Carries x k j pg noise c f ix c' f' ix' r → OneMore k r
+pub carried_one : (x k j : ℕ) (pg noise c : List ℕ) (f : ℕ) (ix c' : List ℕ) (f' : ℕ) (ix' : List ℕ) (r : Result ℕ Halt) → Carries x k j pg noise c f ix c' f' ix' r → OneMore k r
 carried_one x k j pg noise c f ix c' f' ix' r a = go r a.right
   where
-    go : (r : Turn) → CarriesBy x k j pg c f ix c' f' ix' a.did.ops r → OneMore k r
-    go (On m) z = omega (arith, z.one_more)
-    go Dark z = tt
-    go Dirty z = tt
+    go : (r : Result ℕ Halt) → CarriesBy x k j pg c f ix c' f' ix' a.did.ops r → OneMore k r
+    go (Ok m) z = omega (arith, z.one_more)
+    go (Err e) z = tt
 
 -- q is the page of log place p, in the zone, where the head has x pages
 module _ (B : ℕ) (big : 4 ≤ B) (noise c ix : List ℕ) (size : length c ≡ 4096 * B) (f n h x p q : ℕ) (free : x < 15) (zone : p < x + (B - 2))
@@ -63,13 +61,13 @@ module _ (B : ℕ) (big : 4 ≤ B) (noise c ix : List ℕ) (size : length c ≡ 
 
   module _ (ready : Ready B (chip_of c) h x (take n ix)) where
     -- what was judged, by the rows of the log
-    judged : (r : live.Live) → Judges c ix n q r → JudgesBy B c h t s r
+    judged : (r : Option ℕ) → Judges c ix n q r → JudgesBy B c h t s r
     judged r d =
         d.one B h t s big size (omega arith) (omega arith) (omega arith) at (ready.rows ∙ ap (pages B) (table_at_lem B big (chip_of c) h ready.ring))
 
     -- and by the table: no live value
-    dead : Judges c ix n q No → Dead B (chip_of c) t
-    dead d r a says row = judged No d r a says (ap (lookup r.key) (sym (table_at_lem B big (chip_of c) h ready.ring)) ∙ row)
+    dead : Judges c ix n q None → Dead B (chip_of c) t
+    dead d r a says row = judged None d r a says (ap (lookup r.key) (sym (table_at_lem B big (chip_of c) h ready.ring)) ∙ row)
 
     -- a live one
     lives : (j : ℕ) (a : LiveAt B c h t s j) → Live B (chip_of c) t a.rec a.row
@@ -84,7 +82,7 @@ module _ (B : ℕ) (big : 4 ≤ B) (noise c ix : List ℕ) (size : length c ≡ 
     looks_on l top k = subst (Looks B (cursor p l top)) ready.here k
 
   -- it has no live value
-  pub pass_on : Judges c ix n q No → Passes B n h x p noise c f ix c f ix (On x)
+  pub pass_on : Judges c ix n q None → Passes B n h x p noise c f ix c f ix (Ok x)
   unfolding did_more did_none
   pass_on d =
       record {
@@ -99,7 +97,7 @@ module _ (B : ℕ) (big : 4 ≤ B) (noise c ix : List ℕ) (size : length c ≡ 
       }
 
   -- it has one, whose page is pg and whose entry is j
-  module _ (j : ℕ) (pg : List ℕ) (low : j < n) (u : pg ≡ page_at c q) (d : Judges c ix n q (Yes j)) where
+  module _ (j : ℕ) (pg : List ℕ) (low : j < n) (u : pg ≡ page_at c q) (d : Judges c ix n q (Some j)) where
     -- the page says what its place says
     says : (r : Rec) → rec_at c (page_of B t) ≡ some r → rec_of pg ≡ some r
     unfolding rec_at
@@ -108,7 +106,7 @@ module _ (B : ℕ) (big : 4 ≤ B) (noise c ix : List ℕ) (size : length c ≡ 
     module _ (ready : Ready B (chip_of c) h x (take n ix)) (l top : ℕ) (k : Looks B (cursor p l top) x) where
       -- the value
       here : LiveAt B c h t s j
-      here = judged ready (Yes j) d
+      here = judged ready (Some j) d
 
       -- the operation, by the next place of the chip
       began : (ops : List Op) → ops ≡ write (16 * h + x) (anew pg) ∷ [] → write (16 * h + next (chip_of c) h) (anew pg) ∷ [] ≡ ops
@@ -164,11 +162,11 @@ module _ (B : ℕ) (big : 4 ≤ B) (noise c ix : List ℕ) (size : length c ≡ 
             }
 
     -- one of these
-    pub pass_carried : (c' ix' : List ℕ) (f' : ℕ) (r : Turn) → Carries h x j pg noise c f ix c' f' ix' r → Passes B n h x p noise c f ix c' f' ix' r
+    pub pass_carried : (c' ix' : List ℕ) (f' : ℕ) (r : Result ℕ Halt) → Carries h x j pg noise c f ix c' f' ix' r → Passes B n h x p noise c f ix c' f' ix' r
     pass_carried c' ix' f' r a = record { did = a.did; right = λ l top k lit ready. go l top k lit ready r a.did.ops a.right }
       where
-        go : (l top : ℕ) → Looks B (cursor p l top) x → 0 < f → Ready B (chip_of c) h x (take n ix) → (r : Turn) (ops : List Op)
+        go : (l top : ℕ) → Looks B (cursor p l top) x → 0 < f → Ready B (chip_of c) h x (take n ix) → (r : Result ℕ Halt) (ops : List Op)
             → CarriesBy h x j pg c f ix c' f' ix' ops r → PassesBy B n h (cursor p l top) c c' f' ix' ops r
-        go l top k lit ready (On m) ops w = carried ready l top k c' ix' f' m ops w
-        go l top k lit ready Dark ops w = record { out = w.out; ends = cut ready l top k c' f' ops lit w }
-        go l top k lit ready Dirty ops w = true≢false (sym (w free) ∙ next_blank (chip_of c) h 15 x (omega (arith, ready.here)) free)
+        go l top k lit ready (Ok m) ops w = carried ready l top k c' ix' f' m ops w
+        go l top k lit ready (Err Dark) ops w = record { out = w.out; ends = cut ready l top k c' f' ops lit w }
+        go l top k lit ready (Err Dirty) ops w = true≢false (sym (w free) ∙ next_blank (chip_of c) h 15 x (omega (arith, ready.here)) free)

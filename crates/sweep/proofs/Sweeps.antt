@@ -1,5 +1,5 @@
 -- One place after another. Assumes nothing.
-use mathlib.Core.Path.{refl, sym, ◌∙◌, subst}
+use mathlib.Core.Path.{◌≡◌, refl, sym, ◌∙◌, subst}
 use mathlib.Core.List.{List, ◌++◌}
 use Prim.Native.Nat.{ℕ, ◌+◌, ◌-◌, ◌≤◌, ◌<◌}
 use native.Mathlib.Numerals.{add-one}
@@ -11,8 +11,10 @@ use Rattle.ring_log.specs.Ring.{chip_of, Ready}
 use Rattle.ring_log.specs.Call.{resting, cursor, on, Looks}
 use Rattle.ring_log.specs.Call as call
 use Rattle.ring_log.proofs.Walk.{goes_none, goes_then, goes_ends}
-use Rattle.clean.specs.declared.Turn.TheVariants.{On, Dark, Dirty}
-use Rattle.sweep.specs.declared.Swept.TheVariants as swept
+use Rattle.std.specs.Prelude.{Result, Ok, Err}
+use Rattle.chip.specs.declared.Halt.{Halt}
+use Rattle.chip.specs.declared.Halt.TheVariants.{Dark, Dirty}
+use Rattle.clean.specs.declared.Place.{Place}
 use Rattle.sweep.specs.Steps.{Went, Passes, Sweeps}
 
 -- SO FAR: the head has y pages, the cursor is at q, and m looks are left
@@ -32,16 +34,12 @@ module _ (B n h x p l top : ℕ) (noise c : List ℕ) (f : ℕ) (ix : List ℕ) 
 
   module _ (d ix₁ : List ℕ) (g y q m : ℕ) (a : Sofar B n h x p l top noise c f ix d g ix₁ y q m) where
     -- it ends here
-    pub sofar_all : call.Swept B (cursor q m top) y → Sweeps B n h x p l top noise c f ix d g ix₁ (swept.To y q m)
-    unfolding did_more
-    sofar_all z = record { did = did_more (omega arith) (omega arith) a.did; right = λ lit ready. (a.right lit ready, z) }
-
     -- a place more
     module _ (some_left : 0 < m) (most : m ≤ l) (room : y < top) (zone : q < y + (B - 2)) (e ix₂ : List ℕ) (k : ℕ) where
       looks : Looks B (cursor q m top) y
       looks = record { some_left = some_left; room = room; zone = zone }
 
-      pub sofar_on : (o : ℕ) → Passes B n h y q noise d g ix₁ e k ix₂ (On o) → Sofar B n h x p l top noise c f ix e k ix₂ o (q + 1) (m - 1)
+      pub sofar_on : (o : ℕ) → Passes B n h y q noise d g ix₁ e k ix₂ (Ok o) → Sofar B n h x p l top noise c f ix e k ix₂ o (q + 1) (m - 1)
       unfolding did_more did_then
       sofar_on o b =
           record {
@@ -59,10 +57,10 @@ module _ (B n h x p l top : ℕ) (noise c : List ℕ) (f : ℕ) (ix : List ℕ) 
                 };
           }
 
-      -- the power went there
-      pub sofar_dark : Passes B n h y q noise d g ix₁ e k ix₂ Dark → Sweeps B n h x p l top noise c f ix e k ix₂ swept.Dark
+      -- it ended there
+      pub sofar_halted : (w : Halt) → Passes B n h y q noise d g ix₁ e k ix₂ (Err w) → Sweeps B n h x p l top noise c f ix e k ix₂ (Err w)
       unfolding did_more did_then
-      sofar_dark b =
+      sofar_halted Dark b =
           record {
             did = did_more (omega arith) (omega arith) (did_then a.did b.did);
             right = λ lit ready.
@@ -70,12 +68,20 @@ module _ (B n h x p l top : ℕ) (noise c : List ℕ) (f : ℕ) (ix : List ℕ) 
                 let w = b.right m top looks v.lit v.ready in
                 record { out = w.out; ends = goes_ends B v.goes w.ends };
           }
-
-      -- its page was not blank
-      pub sofar_dirty : Passes B n h y q noise d g ix₁ e k ix₂ Dirty → Sweeps B n h x p l top noise c f ix e k ix₂ swept.Dirty
-      unfolding did_more did_then
-      sofar_dirty b =
+      sofar_halted Dirty b =
           record {
             did = did_more (omega arith) (omega arith) (did_then a.did b.did);
             right = λ lit ready. let v = a.right lit ready in b.right m top looks v.lit v.ready;
           }
+
+  -- it ends here
+  pub sofar_all : (d ix₁ : List ℕ) (g : ℕ) (w : Place) → Sofar B n h x p l top noise c f ix d g ix₁ w.next w.passed w.left → call.Swept B (cursor w.passed w.left top) w.next
+      → Sweeps B n h x p l top noise c f ix d g ix₁ (Ok w)
+  unfolding did_more
+  sofar_all d ix₁ g w a z = record { did = did_more (omega arith) (omega arith) a.did; right = λ lit ready. (a.right lit ready, z) }
+
+-- with n by the entries that there are then, and the noise by the chip that is lent then
+pub passes_at : {B o n h x p : ℕ} {noise₁ noise c : List ℕ} {f : ℕ} {ix c' : List ℕ} {f' : ℕ} {ix' : List ℕ} {r : Result ℕ Halt} → o ≡ n → noise₁ ≡ noise
+    → Passes B o h x p noise₁ c f ix c' f' ix' r → Passes B n h x p noise c f ix c' f' ix' r
+passes_at {B} {o} {n} {h} {x} {p} {noise₁} {noise} {c} {f} {ix} {c'} {f'} {ix'} {r} e d a =
+    subst (λ (v : ℕ). Passes B v h x p noise c f ix c' f' ix' r) e (subst (λ (v : List ℕ). Passes B o h x p v c f ix c' f' ix' r) d a)

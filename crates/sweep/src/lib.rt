@@ -4,103 +4,72 @@
 // written that isn't blank. What each function did is said in specs/Steps.antt.
 #![tactic(auto)]
 
-ghost use Rattle.std.specs.Prelude.{◌+◌, ◌-◌, ◌*◌, ◌≤◌, ◌<◌, ◌≡◌};
+ghost use Rattle.std.specs.Prelude.{◌+◌, ◌-◌, ◌*◌, ◌≤◌, ◌<◌, ◌≡◌, length, IfOk};
+ghost use Rattle.chip.specs.Lent.{Same};
 ghost use Rattle.ring_log.specs.Log.{page_of, log_place};
 ghost use Rattle.ring_log.specs.Ring.{most_blocks};
 ghost use Rattle.clean.specs.Ends.{Sane};
 ghost use Rattle.sweep.specs.Ends.{OneMore, SweptWithin};
 ghost use Rattle.sweep.specs.Steps.{Passes, Sweeps};
 
-use clean::{Live, Turn};
+use chip::{Chip, Halt};
+use clean::Place;
+use ring_log::Head;
 
-// The page of log place p, where the head is block h.
-fn page_at_log(h: usize, p: usize, b: usize) -> usize
-    requires { (4 ≤ b) × (b ≤ most_blocks) × (h < b) × (p < 15 + (b - 2)) }
-    ensures right { result ≡ page_of b (log_place b (h + b) p) }
-    ensures within { 256 * result + 256 ≤ 4096 * b }
+// The page of log place p.
+fn page_at_log(head: Head, p: usize) -> usize
+    requires { (4 ≤ head.blocks) × (head.blocks ≤ most_blocks) × (head.block < head.blocks) × (p < 15 + (head.blocks - 2)) }
+    ensures right { result ≡ page_of head.blocks (log_place head.blocks (head.block + head.blocks) p) }
+    ensures within { 256 * result + 256 ≤ 4096 * head.blocks }
 {
-    16 * ring_log::block_after(h, 2 + (p - ring_log::FIRST) / ring_log::RECORDS, b)
+    16 * head.after(2 + (p - ring_log::FIRST) / ring_log::RECORDS)
         + ring_log::FIRST
         + (p - ring_log::FIRST) % ring_log::RECORDS
 }
 
-// The place at the cursor is looked at. A live value is carried to place `next` of the head.
+// The place at the cursor is looked at. A live value is carried to place `next` of the head. Answers how many places of the head are used then.
 fn pass(
-    chip: &mut [u8],
+    chip: &mut Chip<'_>,
     index: &mut [u32],
-    n: usize,
-    b: usize,
-    h: usize,
+    head: Head,
     next: usize,
     passed: usize,
-    fuse: &mut u64,
-    noise: &[u8],
-) -> Turn
-    requires sane { Sane b chip.old index.old noise.now n h }
-    requires places { (next < 15) × (passed < next + (b - 2)) }
-    ensures right { Passes b n h next passed noise.now chip.old fuse.old index.old chip.new fuse.new index.new result }
+) -> Result<usize, Halt>
+    requires sane { Sane head.blocks chip.old.bytes.now index.old chip.old.noise.now (length index.old) head.block }
+    requires places { (next < 15) × (passed < next + (head.blocks - 2)) }
+    ensures same { Same chip.old chip.new }
+    ensures right { Passes head.blocks (length index.old) head.block next passed chip.old.noise.now chip.old.bytes.now chip.old.fuse.now index.old chip.new.bytes.now chip.new.fuse.now index.new result }
     ensures more { OneMore next result }
 {
-    let q = page_at_log(h, passed, b);
-    match clean::is_live(chip, index, n, q) {
-        Live::Yes(j) => {
-            let page = chip::page_at(chip, q);
-            clean::carry(chip, index, h, next, j, &page, fuse, noise)
+    let q = page_at_log(head, passed);
+    match clean::is_live(chip.bytes(), index, q) {
+        Some(j) => {
+            let page = chip::page_at(chip.bytes(), q);
+            clean::carry(chip, index, head.block, next, j, &page)
         }
-        Live::No => Turn::On(next),
+        None => Ok(next),
     }
 }
 
-// How far a sweep came: the head's next place, the cursor, and the looks left; or the power went; or a page was not blank.
-#[derive(Clone, Copy)]
-pub enum Swept {
-    To(usize, usize, usize),
-    Dark,
-    Dirty,
-}
-
-// Up to `left` places are looked at, while the head has fewer than `top` pages and the cursor is in its zone.
-pub fn sweep(
-    chip: &mut [u8],
-    index: &mut [u32],
-    n: usize,
-    b: usize,
-    h: usize,
-    next0: usize,
-    passed0: usize,
-    left0: usize,
-    top: usize,
-    fuse: &mut u64,
-    noise: &[u8],
-) -> Swept
-    requires sane { Sane b chip.old index.old noise.now n h }
-    requires places { (next0 ≤ 15) × (top ≤ 15) }
-    ensures right { Sweeps b n h next0 passed0 left0 top noise.now chip.old fuse.old index.old chip.new fuse.new index.new result }
-    ensures within { SweptWithin next0 top passed0 left0 result }
+// Up to `left` places are looked at, while the head has fewer than `top` pages and the cursor is in its zone. Answers where the next record goes then.
+pub fn sweep(chip: &mut Chip<'_>, index: &mut [u32], from: Place, top: usize) -> Result<Place, Halt>
+    requires sane { Sane from.head.blocks chip.old.bytes.now index.old chip.old.noise.now (length index.old) from.head.block }
+    requires places { (from.next ≤ 15) × (top ≤ 15) }
+    ensures same { Same chip.old chip.new }
+    ensures right { Sweeps from.head.blocks (length index.old) from.head.block from.next from.passed from.left top chip.old.noise.now chip.old.bytes.now chip.old.fuse.now index.old chip.new.bytes.now chip.new.fuse.now index.new result }
+    ensures within { SweptWithin from.next top from.passed from.left result }
+    ensures head { IfOk result (λ w. w.head ≡ from.head) }
 {
-    let mut next = next0;
-    let mut passed = passed0;
-    let mut left = left0;
-    while 0 < left {
-        if top <= next {
-            return Swept::To(next, passed, left);
-        }
-        if next + (b - 2) <= passed {
-            return Swept::To(next, passed, left);
-        }
-        match pass(chip, index, n, b, h, next, passed, fuse, noise) {
-            Turn::On(m) => {
-                next = m;
-            }
-            Turn::Dark => {
-                return Swept::Dark;
-            }
-            Turn::Dirty => {
-                return Swept::Dirty;
-            }
-        }
-        passed += 1;
-        left -= 1;
+    let head = from.head;
+    let mut place = from;
+    // (the looks that are left are part of the answer: a `for` would count them a second time)
+    while 0 < place.left && place.next < top && place.passed < place.next + (head.blocks - 2) {
+        place = Place {
+            head,
+            next: pass(chip, index, head, place.next, place.passed)?,
+            passed: place.passed + 1,
+            left: place.left - 1,
+        };
     }
-    Swept::To(next, passed, left)
+    Ok(place)
 }
