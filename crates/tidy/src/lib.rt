@@ -3,101 +3,69 @@
 // in specs/Steps.antt.
 #![tactic(auto)]
 
-ghost use Rattle.std.specs.Prelude.{◌+◌, ◌-◌, ◌*◌, ◌≤◌, ◌<◌};
+ghost use Rattle.std.specs.Prelude.{◌+◌, ◌-◌, ◌*◌, ◌≤◌, ◌<◌, length};
+ghost use Rattle.chip.specs.Lent.{Same};
 ghost use Rattle.ring_log.specs.Call.{cursor, begin};
 ghost use Rattle.clean.specs.Ends.{Sane};
 ghost use Rattle.opening.specs.Ends.{RoomWithin};
 ghost use Rattle.tidy.specs.Steps.{Places};
 
-use opening::Room;
-use sweep::Swept;
+use chip::{Chip, Halt};
+use clean::Place;
+use ring_log::Head;
 
 // How many places a call looks at.
 const LOOKS: usize = 8;
 
 // The looks that are left after an opening.
-fn sweep_on(
-    chip: &mut [u8],
-    index: &mut [u32],
-    n: usize,
-    b: usize,
-    h: usize,
-    next: usize,
-    passed: usize,
-    left: usize,
-    fuse: &mut u64,
-    noise: &[u8],
-) -> Room
-    requires { Sane b chip.old index.old noise.now n h × (next < 15) }
-    ensures right { Places 0 left b n h next (cursor passed left 14) noise.now chip.old fuse.old index.old chip.new fuse.new index.new result }
-    ensures within { RoomWithin b passed left result }
+fn sweep_on(chip: &mut Chip<'_>, index: &mut [u32], place: Place) -> Result<Place, Halt>
+    requires { Sane place.head.blocks chip.old.bytes.now index.old chip.old.noise.now (length index.old) place.head.block × (place.next < 15) }
+    ensures same { Same chip.old chip.new }
+    ensures right { Places 0 place.left place.head.blocks (length index.old) place.head.block place.next (cursor place.passed place.left 14) chip.old.noise.now chip.old.bytes.now chip.old.fuse.now index.old chip.new.bytes.now chip.new.fuse.now index.new result }
+    ensures within { RoomWithin place.head.blocks place.passed place.left result }
 {
-    match sweep::sweep(chip, index, n, b, h, next, passed, left, 14, fuse, noise) {
-        Swept::To(x, p, l) => Room::Place(h, x, p, l),
-        Swept::Dark => Room::Gone,
-        Swept::Dirty => Room::Stuck,
-    }
+    sweep::sweep(chip, index, place, 14)
 }
 
 // The head is full: room is made, and the rest of the looks; a place is left for the record.
 fn make_more(
-    chip: &mut [u8],
+    chip: &mut Chip<'_>,
     index: &mut [u32],
-    n: usize,
-    b: usize,
-    h: usize,
+    head: Head,
     passed: usize,
     left: usize,
-    fuse: &mut u64,
-    noise: &[u8],
-) -> Room
-    requires { Sane b chip.old index.old noise.now n h }
-    ensures right { Places (b - 2) (16 * (b - 2) + left) b n h 15 (cursor passed left 15) noise.now chip.old fuse.old index.old chip.new fuse.new index.new result }
-    ensures within { RoomWithin b passed left result }
+) -> Result<Place, Halt>
+    requires { Sane head.blocks chip.old.bytes.now index.old chip.old.noise.now (length index.old) head.block }
+    ensures same { Same chip.old chip.new }
+    ensures right { Places (head.blocks - 2) (16 * (head.blocks - 2) + left) head.blocks (length index.old) head.block 15 (cursor passed left 15) chip.old.noise.now chip.old.bytes.now chip.old.fuse.now index.old chip.new.bytes.now chip.new.fuse.now index.new result }
+    ensures within { RoomWithin head.blocks passed left result }
 {
-    match opening::make_room(chip, index, n, b, h, passed, left, fuse, noise) {
-        Room::Place(h2, x, p, l) => sweep_on(chip, index, n, b, h2, x, p, l, fuse, noise),
-        Room::Gone => Room::Gone,
-        Room::Stuck => Room::Stuck,
-    }
+    let place = opening::make_room(chip, index, head, passed, left)?;
+    sweep_on(chip, index, place)
 }
 
 // A place for the record: first up to 8 places behind the cursor are looked at, and what is live there is carried to the head.
 pub fn make_place(
-    chip: &mut [u8],
+    chip: &mut Chip<'_>,
     index: &mut [u32],
-    n: usize,
-    b: usize,
-    h: usize,
+    head: Head,
     next: usize,
     passed: usize,
-    fuse: &mut u64,
-    noise: &[u8],
-) -> Room
-    requires { Sane b chip.old index.old noise.now n h × (next ≤ 15) }
-    ensures right { Places (b - 2) (16 * (b - 2) + 16) b n h next (begin passed) noise.now chip.old fuse.old index.old chip.new fuse.new index.new result }
-    ensures within { RoomWithin b passed 8 result }
+) -> Result<Place, Halt>
+    requires { Sane head.blocks chip.old.bytes.now index.old chip.old.noise.now (length index.old) head.block × (next ≤ 15) }
+    ensures same { Same chip.old chip.new }
+    ensures right { Places (head.blocks - 2) (16 * (head.blocks - 2) + 16) head.blocks (length index.old) head.block next (begin passed) chip.old.noise.now chip.old.bytes.now chip.old.fuse.now index.old chip.new.bytes.now chip.new.fuse.now index.new result }
+    ensures within { RoomWithin head.blocks passed 8 result }
 {
-    match sweep::sweep(
-        chip,
-        index,
-        n,
-        b,
-        h,
+    let from = Place {
+        head,
         next,
         passed,
-        LOOKS,
-        ring_log::PLACES,
-        fuse,
-        noise,
-    ) {
-        Swept::To(x, p, l) => {
-            if x < ring_log::PLACES {
-                return Room::Place(h, x, p, l);
-            }
-            make_more(chip, index, n, b, h, p, l, fuse, noise)
-        }
-        Swept::Dark => Room::Gone,
-        Swept::Dirty => Room::Stuck,
+        left: LOOKS,
+    };
+    let place = sweep::sweep(chip, index, from, ring_log::PLACES)?;
+    if place.next < ring_log::PLACES {
+        return Ok(place);
     }
+    make_more(chip, index, head, place.passed, place.left)
 }
