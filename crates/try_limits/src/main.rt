@@ -1,6 +1,6 @@
 // Both sides of each limit of document 01: its section 5 line by line, the refusals of section 3, and of section 6 the danger that rubbish takes the room. Then
 // document 03, section 4, step by step.
-// B = 4,096 and 4,097 are left out: a chip of 16 MiB doesn't fit the stack of a program.
+// B = 4,096 and 4,097 are left out: no chip of more than five blocks is lent.
 //
 // The cases are a script, the file stdin: text that has a line for each step. Each line is printed with what it is answered.
 //
