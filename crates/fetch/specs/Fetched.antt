@@ -6,8 +6,7 @@ use Rattle.ring_log.specs.Answers.{Answer as Says}
 use Rattle.ring_log.specs.Log.{pages}
 use Rattle.ring_log.specs.Ring.{chip_of, table}
 use Rattle.lent.specs.Area.{blocks_of, map_in, lent_of, Kept}
-use Rattle.lent.specs.declared.Answer.{Answer}
-use Rattle.lent.specs.declared.Answer.TheVariants.{Done, Refused}
+use Rattle.lent.specs.Ended.{Answer, Done, Refused}
 
 -- how get ends: past the value, and whole where it is refused, the buffer is as it was
 abbrev pub GotBy : List ℕ → List ℕ → Answer → Type 0

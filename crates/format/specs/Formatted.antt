@@ -5,8 +5,7 @@ use Rattle.ring_log.specs.Answers.{Answer as Says}
 use Rattle.ring_log.specs.Map.{Map}
 use Rattle.ring_log.specs.Ring.{chip_of}
 use Rattle.lent.specs.Area.{blocks_of, map_in, mark, lent_of}
-use Rattle.lent.specs.declared.Answer.{Answer}
-use Rattle.lent.specs.declared.Answer.TheVariants.{Done, Refused}
+use Rattle.lent.specs.Ended.{Answer, Done, Refused}
 
 -- every block erased: every page is blank and the power is on; or it went
 pub record ClearsAll (b : ℕ) (c : List ℕ) (f : ℕ) (r : Bool) : Type 0 where

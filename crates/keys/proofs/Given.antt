@@ -16,8 +16,7 @@ use Rattle.ring_log.specs.Answers.{Answer as Says}
 use Rattle.ring_log.proofs.AnswerLaws.{refuse_other, refuse_done, done_never, done_is}
 use Rattle.lent.specs.Area.{Sized, map_in, mark, lent_of}
 use Rattle.fetch.specs.Fetched.{GetsBy, Gets}
-use Rattle.lent.specs.declared.Answer.{Answer}
-use Rattle.lent.specs.declared.Answer.TheVariants.{Done, Refused}
+use Rattle.lent.specs.Ended.{Answer, Done, Refused}
 use Rattle.lent.proofs.Numbers.{sizes_hold, done_inj, refused_inj, done≢refused}
 use Rattle.keys.specs.Next.{next_key, next_answer}
 use Rattle.keys.proofs.Chips.{map_key}

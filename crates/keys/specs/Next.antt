@@ -8,7 +8,7 @@ use Rattle.ring_log.specs.Answers.{Answer as Says}
 use Rattle.index.specs.Index.{keys_of, Ordered}
 use Rattle.lent.specs.Area.{map_in, lent_of, Kept}
 use Rattle.fetch.specs.Fetched.{Gets}
-use Rattle.lent.specs.declared.Answer.{Answer}
+use Rattle.lent.specs.Ended.{Answer}
 
 -- the next larger key that has a value: the first of the map's keys, in their order, that comes after k; none if there is none
 unfoldable pub next_key : {A : Type 0} → Key → Map A → Option Key

@@ -1,5 +1,5 @@
 -- The refusals that need no search, as numbers: what the code tests, and what the answers of document 01 say. Assumes nothing.
-use mathlib.Core.Path.{◌≡◌, refl, sym, ◌∙◌, subst}
+use mathlib.Core.Path.{◌≡◌, refl, sym, subst}
 use mathlib.Core.List.{List}
 use mathlib.Core.Bool.{Bool, true, false, not, ◌&&◌, ◌||◌}
 use Prim.Native.Nat.{ℕ, zero, suc, ◌+◌, ◌*◌, ◌/◌, ◌%◌, ◌≤◌, ◌<◌}
@@ -68,13 +68,13 @@ module _ (c : List ℕ) (f : ℕ) (w : List ℕ) (n : ℕ) where
   due_none s p q = sym (by_tests true false true (sizes_hold c w s) (not_dark p q) (eq-eqb (mark w) 1 q))
 
   -- none is due, and the number after it is answered
-  pub tested_next : (k r : ℕ) → k ≡ 0 → Tested c f w 0 k → r ≡ n → Tested c f w n r
-  tested_next k r z t e =
+  pub tested_next : Tested c f w 0 0 → Tested c f w n n
+  tested_next t =
       record {
-        lit = λ _. t.lit z;
-        marked = λ _. t.marked z;
-        checked = λ _. t.checked z;
-        due = λ _. e ∙ due_none (t.checked z).sized (t.lit z) (t.marked z);
+        lit = λ _. t.lit refl;
+        marked = λ _. t.marked refl;
+        checked = λ _. t.checked refl;
+        due = λ _. due_none (t.checked refl).sized (t.lit refl) (t.marked refl);
       }
 
   -- a refusal of what is lent is due whatever would come after it

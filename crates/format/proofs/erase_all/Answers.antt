@@ -1,23 +1,24 @@
-use mathlib.Core.Path.{refl, ◌∙◌}
+-- `format::erase_all` meets its contract. Assumes nothing.
+use mathlib.Core.Path.{refl}
+use Prim.Native.Nat.{◌+◌, ◌*◌, ◌≤◌}
+use lib.ListN.{length}
 use native.Mathlib.Omega.{arith}
-use Rattle.chip.proofs.Plays.{did_none, did_erase, did_more, did_then}
-use Rattle.format.proofs.Formats.{blank_more, clears_lost, clears_all}
+use Rattle.chip.proofs.Plays.{did_none, did_more}
+use Rattle.format.proofs.Formats.{same_next, did_next, blank_next}
 use Rattle.format.proofs.erase_all.Goals as goal
 
 pub loop-x-init : goal.loop-x-init
-loop-x-init c = (omega arith, refl, did_none _ _, λ p h. absurd (omega arith), λ h. absurd (omega arith))
+loop-x-init c = (record { bytes = refl; size = refl; fuse = refl; noise = refl }, did_none _ _, λ p h. absurd (omega arith), λ h. absurd (omega arith))
 
-pub returns-then-fuse-eq0 : goal.returns-then-fuse-eq0
-returns-then-fuse-eq0 c = record { did = did_more (omega arith) (omega arith) (did_then c.loop-x.invariant.2 (did_erase c.loop-x.x _ _ _ _ (omega (arith, c.loop-x.invariant.1)) c.erase.ensures.chip_after c.erase.ensures.fuse_after)); right = clears_lost _ _ _ (omega arith) }
+pub returns-in_err-erase-clause-did : goal.returns-in_err-erase-clause-did
+returns-in_err-erase-clause-did c = let i = c.loop-x.invariant in
+    did_more (omega arith) (omega arith) (did_next c.args.chip.now c.loop-x.chip c.erase.new.self c.loop-x.x i.0 _ (omega (arith, i.0.size)) c.erase.ensures.same c.erase.ensures.right i.1)
 
 pub loop-x-preserved : goal.loop-x-preserved
-loop-x-preserved c = (
-  omega arith,
-  c.erase.auto.chip ∙ c.loop-x.invariant.1,
-  did_more (omega arith) (omega arith) (did_then c.loop-x.invariant.2 (did_erase c.loop-x.x _ _ _ _ (omega (arith, c.loop-x.invariant.1)) c.erase.ensures.chip_after c.erase.ensures.fuse_after)),
-  blank_more _ _ _ c.loop-x.x _ _ (omega (arith, c.loop-x.invariant.1)) c.erase.ensures.chip_after c.erase.ensures.fuse_after (omega arith) c.loop-x.invariant.3,
-  λ _. omega arith,
-)
-
-pub returns : goal.returns
-returns c = record { did = did_more (omega arith) (omega arith) c.loop-x.invariant.2; right = clears_all _ _ _ c.loop-x.x (omega arith) (c.loop-x.invariant.4 (omega arith)) c.loop-x.invariant.3 }
+loop-x-preserved c = let i = c.loop-x.invariant in
+    let h : 4096 * c.loop-x.x + 4096 ≤ length c.loop-x.chip.bytes.now = omega (arith, i.0.size) in (
+      same_next c.args.chip.now c.loop-x.chip c.erase.new.self c.loop-x.x i.0 _ h c.erase.ensures.same c.erase.ensures.right,
+      did_next c.args.chip.now c.loop-x.chip c.erase.new.self c.loop-x.x i.0 _ h c.erase.ensures.same c.erase.ensures.right i.1,
+      blank_next c.args.chip.now c.loop-x.chip c.erase.new.self c.loop-x.x i.0 _ h c.erase.ensures.same c.erase.ensures.right c.in_ok-erase.ensures.right.says i.2,
+      λ _. c.in_ok-erase.ensures.right.says,
+    )
