@@ -7,8 +7,8 @@ use Prim.Native.Nat.{ℕ, suc, ◌+◌, ◌-◌, ◌*◌, ◌≤◌, ◌<◌}
 use native.Mathlib.Omega.{arith}
 use lib.Dec.{leb}
 use lib.ListN.{length, take}
-use lib.Seq.{length-take-le}
-use borrow.Author.Tests.{leb-false, le-leb, lt-leb}
+use lib.Seq.{length-take-le, take-length, take_at}
+use borrow.Author.Tests.{leb-false}
 use Rattle.chip.specs.Chip.{power, blank_at, written}
 use Rattle.chip.specs.Play.{Op, write, Writable, Did}
 use Rattle.chip.proofs.Power.{write_stayed, write_went}
@@ -18,7 +18,7 @@ use Rattle.ring_log.specs.Key.{Key}
 use Rattle.ring_log.specs.Map.{Map, lookup, alter, Sorted, keys}
 use Rattle.ring_log.specs.Log.{Placed, placed, pages}
 use Rattle.ring_log.specs.Ring.{Chip, chip_of, Ring, next, table_at, table, map_of, head, room, Ready}
-use Rattle.ring_log.specs.Call.{resting, Wrote, CutWrote, cursor, begin, Swept, Trace, append, append_cut, Goes}
+use Rattle.ring_log.specs.Call.{resting, Wrote, CutWrote, Cursor, cursor, begin, Swept, Trace, append, append_cut, Goes}
 use Rattle.ring_log.specs.Answers.{missing}
 use Rattle.ring_log.proofs.MapLaws.{or_zero}
 use Rattle.ring_log.proofs.MapMore.{sorted_map_v}
@@ -31,13 +31,19 @@ use Rattle.ring_log.proofs.AnswerLaws.{count_alter}
 use Rattle.ring_log.proofs.Bytes.{wrote_record, cut_record}
 use Rattle.index.specs.Index.{keys_of, Ordered}
 use Rattle.index.specs.Answers.{FindsBy, Finds, put_at}
-use Rattle.index.specs.declared.Found.{Found}
-use Rattle.index.specs.declared.Found.TheVariants.{At, Missing}
+use Rattle.std.specs.Prelude.{Result, Ok, Err}
 use Rattle.index.proofs.Rows.{table_keys, table_ordered, table_put, table_take}
-use Rattle.tidy.specs.Steps.{Places}
-use Rattle.opening.specs.declared.Room.TheVariants.{Place, Gone, Stuck}
-use Rattle.append.specs.declared.Change.{Change}
-use Rattle.append.specs.declared.Change.TheVariants.{Made, Denied, Lost, Broken}
+use Rattle.tidy.specs.Steps.{PlacesBy, Places}
+use Rattle.chip.specs.Lent.{Writes}
+use Rattle.chip.specs.declared.Halt.{Halt}
+use Rattle.chip.specs.declared.Halt.TheVariants.{Dark, Dirty}
+use Rattle.clean.specs.declared.Place.{Place}
+use Rattle.lent.specs.Ended.{refusal_number}
+use Rattle.lent.specs.declared.Refusal.{Refusal}
+use Rattle.lent.specs.declared.Refusal.TheVariants.{BadKey, LongValue, NoRoom, NoValue, BadSize, ShortBuffer, PowerGone, NotStarted}
+use Rattle.append.specs.declared.Made.{Made}
+use Rattle.append.specs.declared.Unmade.{Unmade}
+use Rattle.append.specs.declared.Unmade.TheVariants.{Denied, Halted}
 use Rattle.lent.specs.Tested.{number}
 use Rattle.append.specs.Steps.{entered, is_missing, denial, denial_in, AppendsBy, Appends, AltersBy, Alters}
 use Rattle.append.proofs.Runs.{record_writable}
@@ -69,27 +75,9 @@ alter_fits B false key value m s few d = go (lookup key m) refl d
     go none h t = omega (arith, count_alter key (some value) m s, full (leb (room B) (length m)) refl t)
     go (some u) h t = omega (arith, count_alter key (some value) m s, ap (or_zero (λ (v : List ℕ). 1)) h)
 
--- the refusals 4 and 3, as the code tests them
-module _ (note none : Bool) (n B : ℕ) where
-  pub denial_known : none ≡ false → 0 ≡ denial note none n B
-  denial_known e = go note ∙ ap (λ (b : Bool). denial note b n B) (sym e)
-    where
-      go : (note : Bool) → 0 ≡ denial note false n B
-      go true = refl
-      go false = refl
-
-  pub denial_4 : none ≡ true → note ≡ true → 4 ≡ denial note none n B
-  denial_4 e d = rw (e, d)
-
-  pub denial_3 : none ≡ true → note ≡ false → room B ≤ n → 3 ≡ denial note none n B
-  denial_3 e d l = rw (e, d, le-leb (room B) n l)
-
-  pub denial_none : none ≡ true → note ≡ false → n < room B → 0 ≡ denial note none n B
-  denial_none e d l = rw (e, d, lt-leb (room B) n l)
-
 -- ---- THE APPEND
 
-module _ (B : ℕ) (big : 4 ≤ B) (c : List ℕ) (size : length c ≡ 4096 * B) (c' : List ℕ) (h : ℕ) (r : Ring B (chip_of c) h) (free : next (chip_of c) h < 15) (key value : List ℕ) (found : Found)
+module _ (B : ℕ) (big : 4 ≤ B) (c : List ℕ) (size : length c ≡ 4096 * B) (c' : List ℕ) (h : ℕ) (r : Ring B (chip_of c) h) (free : next (chip_of c) h < 15) (key value : List ℕ) (found : Result ℕ ℕ)
     (finds : Finds (keys_of c (pages B (table B (chip_of c)))) key found) where
   -- they are those of the new table
   entered_rows : (note : Bool) → Written B (place B big (chip_of c) h) (record_of note key value) (chip_of c) (chip_of c')
@@ -101,9 +89,9 @@ module _ (B : ℕ) (big : 4 ≤ B) (c : List ℕ) (size : length c ≡ 4096 * B)
       ∙ table_put B big c size key found finds (placed (place B big (chip_of c) h) value)
       ∙ ap (pages B) (sym (put_table B big (chip_of c) (chip_of c') h r free (record_of false key value) w))
 
-module _ (B : ℕ) (big : 4 ≤ B) (noise c ix : List ℕ) (size : length c ≡ 4096 * B) (f h y p n : ℕ) (found : Found) (note : Bool) (key value : List ℕ) (l : y < 15) where
+module _ (B : ℕ) (big : 4 ≤ B) (noise c ix : List ℕ) (size : length c ≡ 4096 * B) (f h y p n : ℕ) (found : Result ℕ ℕ) (note : Bool) (key value : List ℕ) (l : y < 15) where
   -- the page of the next place would not be blank
-  pub append_broken : blank_at c (16 * h + y) ≡ false → Appends B h y p n found note key value noise c f ix c f ix Broken
+  append_broken : blank_at c (16 * h + y) ≡ false → Appends B h y p n found note key value noise c f ix c f ix (Err Dirty)
   append_broken z =
       record {
         did = did_more (omega arith) (omega arith) (did_none c f);
@@ -122,7 +110,7 @@ module _ (B : ℕ) (big : 4 ≤ B) (noise c ix : List ℕ) (size : length c ≡ 
     did = did_meant (16 * h + y) (record_page x) new c c' f f' fit u w g
 
     -- the power went
-    pub append_lost : f' ≡ 0 → Appends B h y p n found note key value noise c f ix c' f' ix Lost
+    append_lost : f' ≡ 0 → Appends B h y p n found note key value noise c f ix c' f' ix (Err Dark)
     unfolding did did_meant did_write
     append_lost gone =
         record {
@@ -139,10 +127,10 @@ module _ (B : ℕ) (big : 4 ≤ B) (noise c ix : List ℕ) (size : length c ≡ 
         }
 
     -- it stayed
-    pub append_made : 0 < f' → (ix' : List ℕ) (m : ℕ) → m ≤ length ix' → take m ix' ≡ entered note found (16 * h + y) (take n ix)
-        → Appends B h y p n found note key value noise c f ix c' f' ix' (Made h (y + 1) m p)
+    append_made : 0 < f' → (b : ℕ) (ix' : List ℕ) (m : ℕ) → m ≤ length ix' → take m ix' ≡ entered note found (16 * h + y) (take n ix)
+        → Appends B h y p n found note key value noise c f ix c' f' ix' (Ok (record { head = record { block = h; blocks = b }; next = y + 1; keys = m; passed = p }))
     unfolding did did_meant did_write
-    append_made on ix' m long e =
+    append_made on b ix' m long e =
         record {
           did = did;
           right = λ j a s lit r finds d.
@@ -174,18 +162,65 @@ module _ (B : ℕ) (big : 4 ≤ B) (noise c ix : List ℕ) (size : length c ≡ 
         altered true t free r = put_map B big (chip_of c) (chip_of c') h r free (record_of true key value) t
         altered false t free r = put_map B big (chip_of c) (chip_of c') h r free (record_of false key value) t
 
+  -- by what the write answered
+  module _ (c' new : List ℕ) (f' : ℕ) (i : 256 * (16 * h + y) + 256 ≤ length c) (proper : Proper (record_of note key value)) (u : new ≡ record_page (record_of note key value)) where
+    pub append_halted : (e : Halt) → Writes (16 * h + y) new noise c f c' f' (Err e) → Appends B h y p n found note key value noise c f ix c' f' ix (Err e)
+    append_halted Dark a = append_lost c' new f' i a.says.0 proper a.says.2 u a.says.1 a.says.3
+    append_halted Dirty a =
+        subst (λ (d : List ℕ). Appends B h y p n found note key value noise c f ix d f' ix (Err Dirty)) (sym a.says.1)
+        (subst (λ (g : ℕ). Appends B h y p n found note key value noise c f ix c g ix (Err Dirty)) (sym a.says.2) (append_broken a.says.0))
+
+    pub append_on : Writes (16 * h + y) new noise c f c' f' (Ok tt) → (b : ℕ) (ix' : List ℕ) (m : ℕ) → m ≤ length ix' → take m ix' ≡ entered note found (16 * h + y) (take n ix)
+        → Appends B h y p n found note key value noise c f ix c' f' ix' (Ok (record { head = record { block = h; blocks = b }; next = y + 1; keys = m; passed = p }))
+    append_on a b ix' m long e = append_made c' new f' i a.says.0 proper a.says.2 u a.says.1 a.says.3 b ix' m long e
+
+-- with the blocks of the head that there is then, and the noise by the chip that is lent then
+pub appends_at : {A B h y p n : ℕ} {found : Result ℕ ℕ} {note : Bool} {key value noise₁ noise c : List ℕ} {f : ℕ} {ix c' : List ℕ} {f' : ℕ} {ix' : List ℕ} {r : Result Made Halt} → A ≡ B
+    → noise₁ ≡ noise → Appends A h y p n found note key value noise₁ c f ix c' f' ix' r → Appends B h y p n found note key value noise c f ix c' f' ix' r
+appends_at {A} {B} {h} {y} {p} {n} {found} {note} {key} {value} {noise₁} {noise} {c} {f} {ix} {c'} {f'} {ix'} {r} a d x =
+    subst (λ (v : ℕ). Appends v h y p n found note key value noise c f ix c' f' ix' r) a
+    (subst (λ (v : List ℕ). Appends A h y p n found note key value v c f ix c' f' ix' r) d x)
+
+-- a place was made in the part of the index that has its entries: the rest of it stays as it was
+pub places_part : (e w B n h y : ℕ) (u : Cursor) (noise c : List ℕ) (f : ℕ) (ix : List ℕ) → n ≤ length ix → (c' : List ℕ) (f' : ℕ) (part rest : List ℕ) (r : Result Place Halt)
+    → length part ≡ length (take n ix) → Places e w B (length (take n ix)) h y u noise c f (take n ix) c' f' part r → Places e w B n h y u noise c f ix c' f' (part ++ rest) r
+places_part e w B n h y u noise c f ix long c' f' part rest r l x =
+    record {
+      did = x.did;
+      right = λ lit ready. go r (x.right lit (subst (Ready B (chip_of c) h y) (sym (take-length (take n ix))) ready));
+    }
+  where
+    same : take (length (take n ix)) part ≡ take n (part ++ rest)
+    same =
+        ap (λ (k : ℕ). take k part) (sym l) ∙ take-length part ∙ sym (take_at part rest n (l ∙ length-take-le n ix long))
+
+    go : (r : Result Place Halt) → PlacesBy B (length (take n ix)) h u c c' f' part x.did.ops r → PlacesBy B n h u c c' f' (part ++ rest) x.did.ops r
+    go (Ok v) z = (z.0, subst (Ready B (chip_of c') v.head.block v.next) same z.1, z.2, z.3)
+    go (Err Dark) z = z
+    go (Err Dirty) z = z
+
+-- what was found, by another name of the bytes
+pub finds_at : {d c ps : List ℕ} {key : Key} {found : Result ℕ ℕ} → d ≡ c → (Ordered d ps → Finds (keys_of d ps) key found) → Ordered c ps → Finds (keys_of c ps) key found
+finds_at {d} {c} {ps} {key} {found} e = subst (λ (b : List ℕ). Ordered b ps → Finds (keys_of b ps) key found) e
+
 -- ---- THE CHANGE
+
+-- what an append answers, as the answer of the change
+abbrev pub raised : Result Made Halt → Result Made Unmade
+raised (Ok w) = Ok w
+raised (Err e) = Err (Halted e)
+
 module _ (B : ℕ) (big : 4 ≤ B) (c : List ℕ) (size : length c ≡ 4096 * B) where
   -- whether the key was found is whether it has a value
-  found_missing : (key : Key) (found : Found) → Finds (keys_of c (pages B (table B (chip_of c)))) key found → is_missing found ≡ missing (lookup key (map_of B (chip_of c)))
+  found_missing : (key : Key) (found : Result ℕ ℕ) → Finds (keys_of c (pages B (table B (chip_of c)))) key found → is_missing found ≡ missing (lookup key (map_of B (chip_of c)))
   unfolding table table_at map_of
   found_missing key found x = go found x.says
     where
-      go : (found : Found) → FindsBy (keys_of c (pages B (table B (chip_of c)))) key found → is_missing found ≡ missing (lookup key (map_of B (chip_of c)))
-      go (At i) y = ap missing (sym (found_value B big c size (head B (chip_of c) + B) (15 * (head B (chip_of c) + B) + 15) key i y))
-      go (Missing i) y = ap missing (sym (missed_value B big c size (head B (chip_of c) + B) (15 * (head B (chip_of c) + B) + 15) key i y))
+      go : (found : Result ℕ ℕ) → FindsBy (keys_of c (pages B (table B (chip_of c)))) key found → is_missing found ≡ missing (lookup key (map_of B (chip_of c)))
+      go (Ok i) y = ap missing (sym (found_value B big c size (head B (chip_of c) + B) (15 * (head B (chip_of c) + B) + 15) key i y))
+      go (Err i) y = ap missing (sym (missed_value B big c size (head B (chip_of c) + B) (15 * (head B (chip_of c) + B) + 15) key i y))
 
-module _ (B : ℕ) (big : 4 ≤ B) (noise c ix : List ℕ) (size : length c ≡ 4096 * B) (f h y p n : ℕ) (long : n ≤ length ix) (note : Bool) (key value : List ℕ) (found : Found)
+module _ (B : ℕ) (big : 4 ≤ B) (noise c ix : List ℕ) (size : length c ≡ 4096 * B) (f h y p n : ℕ) (long : n ≤ length ix) (note : Bool) (key value : List ℕ) (found : Result ℕ ℕ)
     (finds : Ordered c (take n ix) → Finds (keys_of c (take n ix)) key found) where
   known : Ready B (chip_of c) h y (take n ix) → Finds (keys_of c (take n ix)) key found
   known r = finds (subst (Ordered c) (sym r.rows) (table_ordered B big c size))
@@ -197,21 +232,30 @@ module _ (B : ℕ) (big : 4 ≤ B) (noise c ix : List ℕ) (size : length c ≡ 
       ap (λ (b : Bool). denial note b n B) (found_missing B big c size key found k)
       ∙ ap (λ (i : ℕ). denial note (missing (lookup key (map_of B (chip_of c)))) i B) (sym (ready_count B (chip_of c) h y (take n ix) r ∙ length-take-le n ix long))
 
-  pub change_denied : (k : ℕ) → k ≡ denial note (is_missing found) n B → 0 < k → Alters B h y p n note key value noise c f ix c f ix (Denied k)
+  pub change_denied : (k : Refusal) → refusal_number k ≡ denial note (is_missing found) n B → Alters B h y p n note key value noise c f ix c f ix (Err (Denied k))
   unfolding did_more did_none
-  change_denied k e l =
-      record { did = did_more (omega arith) (omega arith) (did_none c f); right = λ lit r. (e ∙ denial_is r, l, refl, refl) }
+  change_denied k e =
+      record { did = did_more (omega arith) (omega arith) (did_none c f); right = λ lit r. (e ∙ denial_is r, due k, refl, refl) }
+    where
+      due : (k : Refusal) → 0 < refusal_number k
+      due BadKey = omega arith
+      due LongValue = omega arith
+      due NoRoom = omega arith
+      due NoValue = omega arith
+      due BadSize = omega arith
+      due ShortBuffer = omega arith
+      due PowerGone = omega arith
+      due NotStarted = omega arith
 
-  module _ (k : ℕ) (e : k ≡ denial note (is_missing found) n B) (z : k ≡ 0) (d ix₁ : List ℕ) (g : ℕ) where
+  module _ (e : 0 ≡ denial note (is_missing found) n B) (d ix₁ : List ℕ) (g : ℕ) where
     none_due : Ready B (chip_of c) h y (take n ix) → denial_in note key (map_of B (chip_of c)) B ≡ 0
-    none_due r = sym (denial_is r) ∙ sym e ∙ z
+    none_due r = sym (denial_is r) ∙ sym e
 
     -- a place was found, and the record appended
-    pub change_appended : (h₂ y₂ p₂ l₂ : ℕ) (c' ix' : List ℕ) (f' : ℕ) (r : Change)
-        → Places (B - 2) (16 * (B - 2) + 16) B n h y (begin p) noise c f ix d g ix₁ (Place h₂ y₂ p₂ l₂)
-        → Appends B h₂ y₂ p₂ n found note key value noise d g ix₁ c' f' ix' r → Alters B h y p n note key value noise c f ix c' f' ix' r
+    pub change_appended : (w : Place) (c' ix' : List ℕ) (f' : ℕ) (r : Result Made Halt) → Places (B - 2) (16 * (B - 2) + 16) B n h y (begin p) noise c f ix d g ix₁ (Ok w)
+        → Appends B w.head.block w.next w.passed n found note key value noise d g ix₁ c' f' ix' r → Alters B h y p n note key value noise c f ix c' f' ix' (raised r)
     unfolding did_more did_then
-    change_appended h₂ y₂ p₂ l₂ c' ix' f' r a b =
+    change_appended w c' ix' f' r a b =
         record {
           did = did_more (omega arith) (omega arith) (did_then a.did b.did);
           right = λ lit ready.
@@ -221,25 +265,22 @@ module _ (B : ℕ) (big : 4 ≤ B) (noise c ix : List ℕ) (size : length c ≡ 
               ap (keys_of c) ready.rows ∙ table_keys B big c size ∙ ap keys (sym m.2) ∙ sym (table_keys B big d size₂) ∙ ap (keys_of d) (sym m.1.rows) in
               let none₂ : denial_in note key (map_of B (chip_of d)) B ≡ 0 = ap (λ (q : Map (List ℕ)). denial_in note key q B) m.2 ∙ none_due ready in
               go a.did.ops b.did.ops m.3.0 r (none_due ready) m.3.2
-              (b.right l₂ m.3.0 m.3.1 m.0 m.1 (subst (λ (ks : List Key). Finds ks key found) same (known ready)) none₂);
+              (b.right w.left m.3.0 m.3.1 m.0 m.1 (subst (λ (ks : List Key). Finds ks key found) same (known ready)) none₂);
         }
       where
-        go : (os ps : List Op) (t : ℕ) (r : Change) → denial_in note key (map_of B (chip_of c)) B ≡ 0
-            → Goes B (begin p) (cursor p₂ l₂ t) (resting (chip_of c) h) (resting (chip_of d) h₂) os
-            → AppendsBy B (record_of note key value) (cursor p₂ l₂ t) h₂ d c' f' ix' ps r → AltersBy B note key value h p c f c' f' ix' (os ++ ps) r
-        go os ps t (Made k₁ y₁ m q₁) z w q = (q.0, q.1, q.2, z, w.then (record_of note key value) (chip_of c') q₁ ps true q.3)
-        go os ps t (Denied k₁) z w q = absurd q
-        go os ps t Lost z w q = (q.0, z, (p₂, w.then (record_of note key value) (chip_of c') p₂ ps false q.1))
-        go os ps t Broken z w q = q
+        go : (os ps : List Op) (t : ℕ) (r : Result Made Halt) → denial_in note key (map_of B (chip_of c)) B ≡ 0
+            → Goes B (begin p) (cursor w.passed w.left t) (resting (chip_of c) h) (resting (chip_of d) w.head.block) os
+            → AppendsBy B (record_of note key value) (cursor w.passed w.left t) w.head.block d c' f' ix' ps r → AltersBy B note key value h p c f c' f' ix' (os ++ ps) (raised r)
+        go os ps t (Ok x) z v q = (q.0, q.1, q.2, z, v.then (record_of note key value) (chip_of c') x.passed ps true q.3)
+        go os ps t (Err Dark) z v q = (q.0, z, (w.passed, v.then (record_of note key value) (chip_of c') w.passed ps false q.1))
+        go os ps t (Err Dirty) z v q = q
 
-    -- the power went before
-    pub change_gone : Places (B - 2) (16 * (B - 2) + 16) B n h y (begin p) noise c f ix d g ix₁ Gone → Alters B h y p n note key value noise c f ix d g ix₁ Lost
+    -- it ended before
+    pub change_halted : (w : Halt) → Places (B - 2) (16 * (B - 2) + 16) B n h y (begin p) noise c f ix d g ix₁ (Err w) → Alters B h y p n note key value noise c f ix d g ix₁ (Err (Halted w))
     unfolding did_more
-    change_gone a =
+    change_halted Dark a =
         record {
           did = did_more (omega arith) (omega arith) a.did;
           right = λ lit r. let m = a.right lit r in (m.0, none_due r, (m.1.stood, m.1.short (record_of note key value)));
         }
-
-    pub change_stuck : Places (B - 2) (16 * (B - 2) + 16) B n h y (begin p) noise c f ix d g ix₁ Stuck → Alters B h y p n note key value noise c f ix d g ix₁ Broken
-    change_stuck a = record { did = did_more (omega arith) (omega arith) a.did; right = λ lit r. a.right lit r }
+    change_halted Dirty a = record { did = did_more (omega arith) (omega arith) a.did; right = λ lit r. a.right lit r }

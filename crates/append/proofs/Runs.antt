@@ -10,9 +10,7 @@ use Rattle.chip.specs.Chip.{blank_at}
 use Rattle.chip.specs.Play.{Writable}
 use Rattle.record.specs.Record.{Rec, Proper, record_of, record_page}
 use Rattle.record.proofs.Trip.{record_length, record_bytes}
-use Rattle.append.specs.Steps.{Keyed, UndeniedBy, Undenied, ChangeKeptBy, ChangeKept}
-use Rattle.append.specs.declared.Change.{Change}
-use Rattle.append.specs.declared.Change.TheVariants.{Made, Denied, Lost, Broken}
+use Rattle.append.specs.Steps.{Keyed}
 
 -- the record of a call is one that may be written
 pub proper_of : (note : Bool) (key value : List ℕ) → Keyed key value → Bytes key → Bytes value → Proper (record_of note key value)
@@ -24,13 +22,3 @@ proper_of false key value k b v =
 -- a page that may be written with it
 pub record_writable : (c : List ℕ) (p : ℕ) → 256 * p + 256 ≤ length c → blank_at c p ≡ true → (r : Rec) → Proper r → Writable p (record_page r) c
 record_writable c p h b r q = record { inside = h; blank = b; size = record_length r q; bytes = record_bytes r q }
-
--- a change that is not denied keeps nothing
-pub undenied_kept : (c : List ℕ) (f : ℕ) (ix c' : List ℕ) (f' : ℕ) (ix' : List ℕ) (r : Change) → Undenied r → ChangeKept c f ix c' f' ix' r
-undenied_kept c f ix c' f' ix' r u = record { says = go r u.says }
-  where
-    go : (r : Change) → UndeniedBy r → ChangeKeptBy c f ix c' f' ix' r
-    go (Made h x m p) v = tt
-    go (Denied k) v = absurd v
-    go Lost v = tt
-    go Broken v = tt

@@ -3,25 +3,53 @@
 #![tactic(auto)]
 
 ghost use Rattle.std.specs.Prelude.{◌≡◌, ◌+◌, ◌*◌, ◌≤◌, ◌<◌, length, take};
+ghost use Rattle.chip.specs.Lent.{Same};
 ghost use Rattle.ring_log.specs.Ring.{room, most_blocks};
 ghost use Rattle.index.specs.Answers.{Within};
+ghost use Rattle.lent.specs.Ended.{number_due};
 ghost use Rattle.clean.specs.Ends.{Sane};
-ghost use Rattle.append.specs.Steps.{Keyed, ChangeWithin, Undenied, ChangeKept, is_missing, denial, entered, Appends, Alters};
+ghost use Rattle.append.specs.declared.Unmade.TheVariants.{Denied, Halted};
+ghost use Rattle.append.specs.Steps.{Keyed, ChangeWithin, ChangeKept, is_missing, denial, entered, Appends, Alters};
 
-use index::Found;
-use opening::Room;
+use chip::{Chip, Halt};
+use clean::Place;
+use lent::Refusal;
+use ring_log::Head;
 
-// How a change ended: done, with the head, the next place, the number of keys and the cursor; a refusal; the power went; a page was not blank.
+// What a change that was made left: the head, its next place, the number of keys and the cursor.
 #[derive(Clone, Copy)]
-pub enum Change {
-    Made(usize, usize, usize, usize),
-    Denied(u32),
-    Lost,
-    Broken,
+pub struct Made {
+    pub head: Head,
+    pub next: usize,
+    pub keys: usize,
+    pub passed: usize,
+}
+
+// Why none was made: it is refused, and nothing was done; or it ended early.
+#[derive(Clone, Copy)]
+pub enum Unmade {
+    Denied(Refusal),
+    Halted(Halt),
+}
+
+impl From<Refusal> for Unmade {
+    ghost from_gives = { λ r u. u ≡ Denied r };
+
+    fn from(r: Refusal) -> Unmade {
+        Unmade::Denied(r)
+    }
+}
+
+impl From<Halt> for Unmade {
+    ghost from_gives = { λ e u. u ≡ Halted e };
+
+    fn from(e: Halt) -> Unmade {
+        Unmade::Halted(e)
+    }
 }
 
 // The index is brought up to the record on page p: a value is put in, and of a note its key is taken out. Answers the number of keys.
-fn enter(index: &mut [u32], n: usize, found: Found, note: bool, p: usize) -> usize
+fn enter(index: &mut [u32], n: usize, found: Result<usize, usize>, note: bool, p: usize) -> usize
     requires { (n < length index.old) × Within n found × (p < 16 * most_blocks) }
     ensures within { result ≤ n + 1 }
     ensures right { take result index.new ≡ entered note found p (take n index.old) }
@@ -34,98 +62,71 @@ fn enter(index: &mut [u32], n: usize, found: Found, note: bool, p: usize) -> usi
 
 // The record is written to the next place of the head, and the index brought up to it.
 fn append(
-    chip: &mut [u8],
+    chip: &mut Chip<'_>,
     index: &mut [u32],
-    b: usize,
-    h: usize,
-    next: usize,
-    passed: usize,
+    place: Place,
     n: usize,
-    found: Found,
+    found: Result<usize, usize>,
     note: bool,
     key: &[u8],
     value: &[u8],
-    fuse: &mut u64,
-    noise: &[u8],
-) -> Change
-    requires sized { (4 ≤ b) × (b ≤ most_blocks) × (length chip.old ≡ 4096 * b) × (h < b) × (next < 15) × (length noise.now ≡ 4096) }
-    requires entries { (n < length index.old) × Within n found × Keyed key.now value.now × (passed < 4294967296) }
-    ensures right { Appends b h next passed n found note key.now value.now noise.now chip.old fuse.old index.old chip.new fuse.new index.new result }
-    ensures within { ChangeWithin b n result }
-    ensures undenied { Undenied result }
+) -> Result<Made, Halt>
+    requires sized { (4 ≤ place.head.blocks) × (place.head.blocks ≤ most_blocks) × (length chip.old.bytes.now ≡ 4096 * place.head.blocks) × (place.head.block < place.head.blocks) × (place.next < 15) }
+    requires entries { (n < length index.old) × Within n found × Keyed key.now value.now × (place.passed < 4294967296) }
+    ensures same { Same chip.old chip.new }
+    ensures right { Appends place.head.blocks place.head.block place.next place.passed n found note key.now value.now chip.old.noise.now chip.old.bytes.now chip.old.fuse.now index.old chip.new.bytes.now chip.new.fuse.now index.new result }
+    ensures within { ChangeWithin place.head.blocks n result }
 {
-    let p = 16 * h + next;
-    if !chip::blank_at(chip, p) {
-        return Change::Broken;
-    }
-    let page = record::encode(note, key, value);
-    chip::write(chip, p, &page, fuse, noise);
-    if *fuse == 0 {
-        return Change::Lost;
-    }
-    let m = enter(index, n, found, note, p);
-    Change::Made(h, next + 1, m, passed)
+    let p = 16 * place.head.block + place.next;
+    chip.write(p, &record::encode(note, key, value))?;
+    let keys = enter(index, n, found, note, p);
+    Ok(Made {
+        head: place.head,
+        next: place.next + 1,
+        keys,
+        passed: place.passed,
+    })
 }
 
-// Whether the key has no entry.
-fn is_missing(found: Found) -> bool
-    ensures { result ≡ is_missing found }
-{
-    match found {
-        Found::At(_) => false,
-        Found::Missing(_) => true,
-    }
-}
-
-// The refusals 4 and 3; 0 if none is due.
-fn denied(found: Found, note: bool, n: usize, b: usize) -> u32
+// The refusals 4 and 3.
+fn denied(found: Result<usize, usize>, note: bool, n: usize, b: usize) -> Result<(), Refusal>
     requires { (b ≤ most_blocks) × (n ≤ room b) }
-    ensures { result ≡ denial note (is_missing found) n b }
+    ensures { number_due result ≡ denial note (is_missing found) n b }
 {
-    if !is_missing(found) {
-        return 0;
+    if found.is_ok() {
+        return Ok(());
     }
     if note {
-        return 4;
+        return Err(Refusal::NoValue);
     }
     let left = ring_log::room(b) - n;
     if left < 1 {
-        return 3;
+        return Err(Refusal::NoRoom);
     }
-    0
+    Ok(())
 }
 
-// A value is put, or a note of a deletion.
+// A value is put, or a note of a deletion. The first n words of the index are its entries.
 pub fn make_change(
-    chip: &mut [u8],
+    chip: &mut Chip<'_>,
     index: &mut [u32],
-    b: usize,
-    h: usize,
+    head: Head,
     next: usize,
     passed: usize,
     n: usize,
     note: bool,
     key: &[u8],
     value: &[u8],
-    fuse: &mut u64,
-    noise: &[u8],
-) -> Change
-    requires sane { Sane b chip.old index.old noise.now n h × (next ≤ 15) }
-    requires entries { (n < length index.old) × Keyed key.now value.now × (n ≤ room b) × (passed < 4294967296) }
-    ensures right { Alters b h next passed n note key.now value.now noise.now chip.old fuse.old index.old chip.new fuse.new index.new result }
-    ensures within { ChangeWithin b n result }
-    ensures kept { ChangeKept chip.old fuse.old index.old chip.new fuse.new index.new result }
+) -> Result<Made, Unmade>
+    requires sane { Sane head.blocks chip.old.bytes.now index.old chip.old.noise.now n head.block × (next ≤ 15) }
+    requires entries { (n < length index.old) × Keyed key.now value.now × (n ≤ room head.blocks) × (passed < 4294967296) }
+    ensures same { Same chip.old chip.new }
+    ensures right { Alters head.blocks head.block next passed n note key.now value.now chip.old.noise.now chip.old.bytes.now chip.old.fuse.now index.old chip.new.bytes.now chip.new.fuse.now index.new result }
+    ensures within { ChangeWithin head.blocks n result }
+    ensures kept { ChangeKept chip.old.bytes.now chip.old.fuse.now index.old chip.new.bytes.now chip.new.fuse.now index.new result }
 {
-    let found = index::find(chip, index, n, key);
-    let k = denied(found, note, n, b);
-    if 0 < k {
-        return Change::Denied(k);
-    }
-    match tidy::make_place(chip, index, n, b, h, next, passed, fuse, noise) {
-        Room::Place(h2, next2, passed2, _) => append(
-            chip, index, b, h2, next2, passed2, n, found, note, key, value, fuse, noise,
-        ),
-        Room::Gone => Change::Lost,
-        Room::Stuck => Change::Broken,
-    }
+    let found = index::find(chip.bytes(), &index[..n], key);
+    denied(found, note, n, head.blocks)?;
+    let place = tidy::make_place(chip, &mut index[..n], head, next, passed)?;
+    Ok(append(chip, index, place, n, found, note, key, value)?)
 }

@@ -1,20 +1,14 @@
 -- `append::append` meets its contract. Assumes nothing.
-use mathlib.Core.Path.{sym, ◌∙◌}
 use native.Mathlib.Omega.{arith}
-use borrow.Author.Tests.{not-true, not-false}
+use Rattle.std.proofs.lemmas.Result.{err_from_is_err_and}
 use Rattle.append.proofs.Runs.{proper_of}
-use Rattle.append.proofs.Appends.{append_broken, append_lost, append_made}
-use borrow.Author.Rules.{rules}
+use Rattle.append.proofs.Appends.{append_halted, append_on}
 use Rattle.append.proofs.append.Goals as goal
 
-pub returns-then-not-blank_at : goal.returns-then-not-blank_at
-returns-then-not-blank_at c = record { right = append_broken _ c.requires.sized.0 _ _ _ c.requires.sized.2 _ _ _ _ _ _ _ _ _ c.requires.sized.4 (sym c.blank_at.ensures ∙ not-true _ c.if-not-blank_at.true-raw); within = tt; undenied = record { says = tt } }
+pub returns-in_err-write-clause-right : goal.returns-in_err-write-clause-right
+returns-in_err-write-clause-right c =
+    let p = err_from_is_err_and c.from_residual.result c.from_residual.ensures.1 in
+    rw (p.1, p.2) (append_halted _ c.requires.sized.0 _ _ _ c.requires.sized.2 _ _ _ _ _ _ _ _ _ c.requires.sized.4 _ _ _ (omega arith) (proper_of c.args.note _ _ c.requires.entries.2 (λ i. omega (arith, c.type_inv.key i)) (λ i. omega (arith, c.type_inv.value i))) c.encode.ensures _ c.in_err-write.ensures.right)
 
-pub write-requires : goal.write-requires
-write-requires c = record { sized = search rules; blank = sym c.blank_at.ensures ∙ not-false _ c.if-not-blank_at.false-raw }
-
-pub returns-then-fuse-eq0 : goal.returns-then-fuse-eq0
-returns-then-fuse-eq0 c = record { right = append_lost _ c.requires.sized.0 _ _ _ c.requires.sized.2 _ _ _ _ _ _ _ _ _ c.requires.sized.4 _ _ _ (omega arith) (sym c.blank_at.ensures ∙ not-false _ c.if-not-blank_at.false-raw) (proper_of c.args.note _ _ c.requires.entries.2 (λ i. omega (arith, c.shared_slice_known-1.given i)) (λ i. omega (arith, c.shared_slice_known-2-1.given i))) c.write.ensures.fuse_after c.encode-page.ensures c.write.ensures.chip_after (omega arith); within = tt; undenied = record { says = tt } }
-
-pub returns : goal.returns
-returns c = record { right = append_made _ c.requires.sized.0 _ _ _ c.requires.sized.2 _ _ _ _ _ _ _ _ _ c.requires.sized.4 _ _ _ (omega arith) (sym c.blank_at.ensures ∙ not-false _ c.if-not-blank_at.false-raw) (proper_of c.args.note _ _ c.requires.entries.2 (λ i. omega (arith, c.shared_slice_known-1.given i)) (λ i. omega (arith, c.shared_slice_known-2-1.given i))) c.write.ensures.fuse_after c.encode-page.ensures c.write.ensures.chip_after (omega arith) _ _ (omega (arith, c.enter-m.ensures.within, c.enter-m.auto.index, c.requires.entries.0)) c.enter-m.ensures.right; within = (search rules, omega arith, omega (arith, c.enter-m.ensures.within), c.requires.entries.3); undenied = record { says = tt } }
+pub returns-clause-right : goal.returns-clause-right
+returns-clause-right c = append_on _ c.requires.sized.0 _ _ _ c.requires.sized.2 _ _ _ _ _ _ _ _ _ c.requires.sized.4 _ _ _ (omega arith) (proper_of c.args.note _ _ c.requires.entries.2 (λ i. omega (arith, c.type_inv.key i)) (λ i. omega (arith, c.type_inv.value i))) c.encode.ensures c.in_ok-write.ensures.right _ _ _ (omega (arith, c.enter-keys.ensures.within, c.enter-keys.auto.index, c.requires.entries.0)) c.enter-keys.ensures.right

@@ -1,22 +1,26 @@
 -- `append::make_change` meets its contract. Assumes nothing.
-use mathlib.Core.Path.{refl, ◌∙◌}
-use native.Mathlib.Omega.{arith}
-use Rattle.append.proofs.Runs.{undenied_kept}
-use Rattle.append.proofs.Appends.{change_denied, change_appended, change_gone, change_stuck}
+use Rattle.std.proofs.lemmas.Result.{err_from_is_err_and}
+use Rattle.clean.proofs.Runs.{same_noise}
+use Rattle.append.proofs.Appends.{appends_at, finds_at, places_part, change_denied, change_appended, change_halted}
 use Rattle.append.proofs.make_change.Goals as goal
 
-pub returns-then-k-gt0 : goal.returns-then-k-gt0
-returns-then-k-gt0 c = record { right = change_denied _ c.requires.sane.0.some_blocks _ _ _ c.requires.sane.0.size _ _ _ _ _ c.requires.sane.0.entries _ _ _ _ c.find-found.ensures.right _ c.denied-k.ensures (omega arith); within = tt; kept = record { says = (refl, refl, refl) } }
+pub returns-in_err-denied-clause-right : goal.returns-in_err-denied-clause-right
+returns-in_err-denied-clause-right c =
+    let p = err_from_is_err_and c.from_residual.result c.from_residual.ensures.1 in
+    rw (p.1, p.2) (change_denied _ c.requires.sane.0.some_blocks _ _ _ c.requires.sane.0.size _ _ _ _ _ c.requires.sane.0.entries _ _ _ _ (finds_at c.bytes.ensures c.find-found.ensures.right) _ c.in_err-denied.ensures)
 
-pub append-requires : goal.append-requires
-append-requires c = let w = c.in-Place.ensures.within in
-    record { sized = (c.requires.sane.0.some_blocks, c.requires.sane.0.few_blocks, c.make_place.auto.chip ∙ c.requires.sane.0.size, w.says.0, w.says.1, c.requires.sane.0.loud); entries = (omega (arith, c.make_place.auto.index, c.requires.entries.0), c.find-found.ensures.within, c.requires.entries.1, w.says.3 c.requires.entries.3) }
+pub returns-in_err-place-clause-right : goal.returns-in_err-place-clause-right
+returns-in_err-place-clause-right c =
+    let p = err_from_is_err_and c.from_residual-in_err-place.result c.from_residual-in_err-place.ensures.1 in
+    rw (p.1, p.2) (change_halted _ c.requires.sane.0.some_blocks _ _ _ c.requires.sane.0.size _ _ _ _ _ c.requires.sane.0.entries _ _ _ _ (finds_at c.bytes.ensures c.find-found.ensures.right) c.in_ok-denied.ensures _ _ _ _ (places_part _ _ _ _ _ _ _ _ _ _ _ c.requires.sane.0.entries _ _ _ _ _ c.make_place.auto.index c.in_err-place.ensures.right))
 
-pub returns-in-Place : goal.returns-in-Place
-returns-in-Place c = record { right = change_appended _ c.requires.sane.0.some_blocks _ _ _ c.requires.sane.0.size _ _ _ _ _ c.requires.sane.0.entries _ _ _ _ c.find-found.ensures.right _ c.denied-k.ensures (omega (arith, c.if-k-gt0.false)) _ _ _ _ _ _ _ _ _ _ _ (c.in-Place.ensures.right) c.append.ensures.right; within = c.append.ensures.within; kept = undenied_kept _ _ _ _ _ _ _ c.append.ensures.undenied }
+pub returns-in_err-append-clause-right : goal.returns-in_err-append-clause-right
+returns-in_err-append-clause-right c =
+    let p = err_from_is_err_and c.from_residual-in_err-append.result c.from_residual-in_err-append.ensures.1 in
+    let w = c.in_ok-place.ensures.within in
+    rw (p.1, p.2) (change_appended _ c.requires.sane.0.some_blocks _ _ _ c.requires.sane.0.size _ _ _ _ _ c.requires.sane.0.entries _ _ _ _ (finds_at c.bytes.ensures c.find-found.ensures.right) c.in_ok-denied.ensures _ _ _ _ _ _ _ _ (places_part _ _ _ _ _ _ _ _ _ _ _ c.requires.sane.0.entries _ _ _ _ _ c.make_place.auto.index c.in_ok-place.ensures.right) (appends_at w.says.4 (same_noise c.make_place.ensures.same) c.in_err-append.ensures.right))
 
-pub returns-in-Gone : goal.returns-in-Gone
-returns-in-Gone c = record { right = change_gone _ c.requires.sane.0.some_blocks _ _ _ c.requires.sane.0.size _ _ _ _ _ c.requires.sane.0.entries _ _ _ _ c.find-found.ensures.right _ c.denied-k.ensures (omega (arith, c.if-k-gt0.false)) _ _ _ (c.in-Gone.ensures.right); within = tt; kept = record { says = tt } }
-
-pub returns-in-Stuck : goal.returns-in-Stuck
-returns-in-Stuck c = record { right = change_stuck _ c.requires.sane.0.some_blocks _ _ _ c.requires.sane.0.size _ _ _ _ _ c.requires.sane.0.entries _ _ _ _ c.find-found.ensures.right _ c.denied-k.ensures (omega (arith, c.if-k-gt0.false)) _ _ _ (c.in-Stuck.ensures.right); within = tt; kept = record { says = tt } }
+pub returns-clause-right : goal.returns-clause-right
+returns-clause-right c =
+    let w = c.in_ok-place.ensures.within in
+    change_appended _ c.requires.sane.0.some_blocks _ _ _ c.requires.sane.0.size _ _ _ _ _ c.requires.sane.0.entries _ _ _ _ (finds_at c.bytes.ensures c.find-found.ensures.right) c.in_ok-denied.ensures _ _ _ _ _ _ _ _ (places_part _ _ _ _ _ _ _ _ _ _ _ c.requires.sane.0.entries _ _ _ _ _ c.make_place.auto.index c.in_ok-place.ensures.right) (appends_at w.says.4 (same_noise c.make_place.ensures.same) c.in_ok-append.ensures.right)
