@@ -8,7 +8,8 @@ use native.Mathlib.Omega.{arith}
 use lib.ListN.{length}
 use Rattle.record.specs.Record.{Rec, rec_at, record_of, key_at}
 use Rattle.record.specs.Kinds.{kind_of}
-use Rattle.record.specs.declared.Kind.TheVariants.{Value, Note, Nothing}
+use Rattle.record.specs.declared.Kind.TheVariants.{Value, Note}
+use Rattle.std.specs.Prelude.{Result, Some, None}
 use Rattle.record.proofs.Reading.{says_key, kind_value, kind_note, kind_nothing}
 use Rattle.ring_log.specs.Key.{Key}
 use Rattle.ring_log.specs.Log.{placed, oldest, run, pages}
@@ -17,18 +18,17 @@ use Rattle.ring_log.proofs.Window.{page_at_lem}
 use Rattle.ring_log.proofs.Start.{run_empty, run_none, run_own}
 use Rattle.index.specs.Index.{keys_of, Ordered}
 use Rattle.index.specs.Answers.{Finds, put_at, take_out}
-use Rattle.index.specs.declared.Found.{Found}
 use Rattle.index.proofs.Rows.{rows_ordered, put_row, take_row}
 use Rattle.ring.specs.Seals.{Begins}
 use Rattle.start.specs.Replay.{Replays, ReplaysTo}
 
 -- ---- A PAGE IS REPLAYED, by what it says
 module _ (c : List ℕ) (p : ℕ) (ps ps' : List ℕ) where
-  pub replays_nothing : kind_of (rec_at c p) ≡ Nothing → ps' ≡ ps → Replays c p ps ps'
+  pub replays_nothing : kind_of (rec_at c p) ≡ None → ps' ≡ ps → Replays c p ps ps'
   replays_nothing q d =
       record { one = λ B e s big size low at h. d ∙ h ∙ ap (pages B) (sym (run_none B (rec_at c) e s low (ap (rec_at c) (sym at) ∙ kind_nothing (rec_at c p) q))) }
 
-  module _ (k : Key) (f : Found) (same : k ≡ key_at c p) (finds : Ordered c ps → Finds (keys_of c ps) k f) where
+  module _ (k : Key) (f : Result ℕ ℕ) (same : k ≡ key_at c p) (finds : Ordered c ps → Finds (keys_of c ps) k f) where
     -- the search in the index of the places before s
     search_rows : (B e s : ℕ) → 4 ≤ B → length c ≡ 4096 * B → ps ≡ pages B (run B (rec_at c) e s) → (r : Rec) → rec_at c p ≡ some r
         → Finds (keys_of c (pages B (run B (rec_at c) e s))) r.key f
@@ -36,7 +36,7 @@ module _ (c : List ℕ) (p : ℕ) (ps ps' : List ℕ) where
         subst (λ (x : Key). Finds (keys_of c (pages B (run B (rec_at c) e s))) x f) (same ∙ says_key c p r at)
         (subst (λ (l : List ℕ). Finds (keys_of c l) k f) h (finds (subst (Ordered c) (sym h) (rows_ordered B big c size e s))))
 
-    pub replays_value : kind_of (rec_at c p) ≡ Value → ps' ≡ put_at f p ps → Replays c p ps ps'
+    pub replays_value : kind_of (rec_at c p) ≡ Some Value → ps' ≡ put_at f p ps → Replays c p ps ps'
     replays_value q d =
         let v = kind_value (rec_at c p) q in
         record {
@@ -46,7 +46,7 @@ module _ (c : List ℕ) (p : ℕ) (ps ps' : List ℕ) where
               ∙ ap (pages B) (sym (run_own B (rec_at c) e s (record_of false v.0 v.1) low (ap (rec_at c) (sym at) ∙ v.2)));
         }
 
-    pub replays_note : kind_of (rec_at c p) ≡ Note → ps' ≡ take_out f ps → Replays c p ps ps'
+    pub replays_note : kind_of (rec_at c p) ≡ Some Note → ps' ≡ take_out f ps → Replays c p ps ps'
     replays_note q d =
         let v = kind_note (rec_at c p) q in
         record {
@@ -80,9 +80,9 @@ module _ (B h : ℕ) (c : List ℕ) where
   rows s = pages B (run B (rec_at c) (h + B) s)
 
   -- the places before it say nothing
-  pub rows_begin : (r : ℕ) → 0 < r → Begins B (chip_of c) h r → [] ≡ rows (15 * (h + r))
-  rows_begin r far b =
-      let n : oldest B (h + B) + 15 * (r - 2) ≡ 15 * (h + r) = omega (arith, (b.range far).0) in
+  pub rows_begin : (r : ℕ) → Begins B (chip_of c) h r → [] ≡ rows (15 * (h + r))
+  rows_begin r b =
+      let n : oldest B (h + B) + 15 * (r - 2) ≡ 15 * (h + r) = omega (arith, b.range.0) in
       ap (pages B) (sym (run_empty B (rec_at c) (h + B))) ∙ go (15 * (r - 2)) (omega arith) ∙ ap rows n
     where
       go : (n : ℕ) → n ≤ 15 * (r - 2) → rows (oldest B (h + B)) ≡ rows (oldest B (h + B) + n)
@@ -90,7 +90,7 @@ module _ (B h : ℕ) (c : List ℕ) where
       go (suc n) l =
           let s : ℕ = oldest B (h + B) + n in
           let z : suc s ≡ oldest B (h + B) + suc n = omega arith in
-          go n (omega arith) ∙ ap (pages B) (sym (run_none B (rec_at c) (h + B) s (omega arith) (b.silent s (omega arith) (omega (arith, (b.range far).0))))) ∙ ap rows z
+          go n (omega arith) ∙ ap (pages B) (sym (run_none B (rec_at c) (h + B) s (omega arith) (b.silent s (omega arith) (omega (arith, b.range.0))))) ∙ ap rows z
 
   -- one block more
   pub rows_next : (x k : ℕ) (ps ps' : List ℕ) → 4 ≤ B → length c ≡ 4096 * B → 2 ≤ k → x ≡ (h + k) % B → ReplaysTo c x 15 ps ps' → ps ≡ rows (15 * (h + k))

@@ -2,13 +2,15 @@
 use mathlib.Core.Path.{◌≡◌, refl, sym, ap, ◌∙◌, subst}
 use mathlib.Core.List.{List, [], ◌∷◌}
 use mathlib.Core.Option.{some}
-use Prim.Native.Nat.{ℕ, zero, suc, ◌+◌, ◌-◌, ◌*◌, ◌/◌, ◌%◌, ◌≤◌, ◌<◌}
+use Prim.Native.Nat.{ℕ, zero, suc, ◌+◌, ◌-◌, ◌*◌, ◌/◌, ◌%◌, ◌≤◌, ◌<◌, min}
 use native.Mathlib.Nat.{mod-lt, mod-eq_of_lt, add-mod_left}
 use native.Mathlib.Numerals.{add-one}
 use native.Mathlib.Decide.{dec_lt, ℕ_discrete}
 use native.Mathlib.Omega.{arith}
 use lib.ListN.{length, take, get_or}
-use lib.Seq.{get_or-take}
+use Rattle.std.proofs.Common.{fold}
+use lib.Seq.{get_or-take, take_all}
+use Rattle.std.proofs.lemmas.List.Sums.{fold_more}
 use borrow.Author.Tests.{le-leb, lt-leb}
 use Rattle.ring_log.specs.Key.{Key, key≟}
 use Rattle.ring_log.specs.Map.{Map, lookup}
@@ -44,6 +46,13 @@ module _ (x y : ℕ) where
   pub lesser_first : x ≤ y → x ≡ lesser x y
   lesser_first l = rw (lt-leb (suc y) x (let z : x < suc y = omega arith in z))
 
+  lesser_min : min x y ≡ lesser x y
+  lesser_min = go (dec_lt y x)
+    where
+      go : Dec (y < x) → min x y ≡ lesser x y
+      go (yes l) = omega (arith, lesser_second l)
+      go (no l) = let z : x ≤ y = omega arith in omega (arith, lesser_first z)
+
   -- it is at most each, and at least what is at most both
   lesser_le : (lesser x y ≤ x) × (lesser x y ≤ y) × ((q : ℕ) → q ≤ x → q ≤ y → q ≤ lesser x y)
   lesser_le = go (dec_lt y x)
@@ -56,14 +65,19 @@ module _ (x y : ℕ) where
 
 -- ---- the least log place, entry by entry
 module _ (t b end : ℕ) (ix : List ℕ) where
-  pub least_none : end ≡ least_of t b end ix 0
-  unfolding least_of
-  least_none = refl
+  -- a fold over all entries makes it
+  abbrev by_min : ℕ → ℕ → ℕ
+  by_min p q = min p (log_place_of t b q)
 
-  pub least_more : (i p q r : ℕ) → p ≡ least_of t b end ix i → q ≡ log_place_of t b (get_or ix i 0) → r ≡ lesser p q → r ≡ least_of t b end ix (i + 1)
+  least_from : (n : ℕ) → n ≤ length ix → fold by_min end (take n ix) ≡ least_of t b end ix n
   unfolding least_of
-  least_more i p q r e f g =
-      g ∙ ap (λ (x : ℕ). lesser x q) e ∙ ap (lesser (least_of t b end ix i)) f ∙ ap (least_of t b end ix) (sym (add-one i))
+  least_from zero l = refl
+  least_from (suc n) l =
+      ap (λ (k : ℕ). fold by_min end (take k ix)) (sym (add-one n)) ∙ fold_more by_min end ix n 0 (omega arith)
+      ∙ ap (λ (p : ℕ). by_min p (get_or ix n 0)) (least_from n (omega arith)) ∙ lesser_min (least_of t b end ix n) (log_place_of t b (get_or ix n 0))
+
+  pub least_fold : fold by_min end ix ≡ least_of t b end ix (length ix)
+  least_fold = ap (fold by_min end) (sym (take_all (length ix) ix (omega arith))) ∙ least_from (length ix) (omega arith)
 
   -- it sees the first n entries alone
   first_alone : (n i : ℕ) → i ≤ n → least_of t b end ix i ≡ least_of t b end (take n ix) i

@@ -6,9 +6,9 @@ use Prim.Native.Nat.{ℕ, ◌+◌, ◌-◌, ◌*◌, ◌%◌, ◌≤◌, ◌<◌
 use native.Mathlib.Omega.{arith}
 use lib.Dec.{eqb, leb}
 use lib.ListN.{length, take, drop, set, get_or, length-set}
-use lib.Seq.{length-take-le, take-take, drop-set-lt, get_or-set_same, get_or-set_other}
+use lib.Seq.{length-take-le, drop-set-lt, get_or-set_same, get_or-set_other}
 use borrow.Author.Tests.{eq-eqb, ne_eqb, le-leb, lt-leb}
-use borrow.Rule.Slice.PartMut.{mid_of, put_mid, same_len_mid, mid_len}
+use borrow.Rule.Slice.PartMut.{put_mid}
 use Rattle.ring_log.specs.Map.{Map}
 use Rattle.ring_log.specs.Log.{pages, U}
 use Rattle.ring_log.specs.Ring.{chip_of, head, Ring, ring_test, table_at, table, next, room}
@@ -25,8 +25,10 @@ use Rattle.start.specs.Replay.{ReadyFor, ReadiesBy, Readies}
 use Rattle.lent.proofs.Area.{downed, downed_1, downed_2, downed_3, downed_4, downed_16, back_long, back_index}
 use Rattle.lent.proofs.Numbers.{sizes_hold}
 use Rattle.lent.proofs.Held.{map_rows as map-table}
-use Rattle.lent.specs.declared.Answer.{Answer}
-use Rattle.lent.specs.declared.Answer.TheVariants.{Done, Refused}
+use Rattle.lent.specs.Ended.{Answer, Done, Refused, answer_of}
+use Rattle.lent.specs.declared.Refusal.{Refusal}
+use Rattle.lent.specs.declared.Refusal.TheVariants.{BadSize}
+use Rattle.std.specs.Prelude.{Result, Err}
 
 -- ---- THE AREA AFTER THE LAST STEP: the index was lent, four words were put down, and the mark
 abbrev pub noted : List ℕ → List ℕ → ℕ → ℕ → ℕ → ℕ → ℕ → List ℕ
@@ -55,13 +57,14 @@ module _ (w ix : List ℕ) (k h x n p : ℕ) (l : 16 ≤ length w) where
   words_index : n ≤ length ix → take n (drop 16 (noted w ix k h x n p)) ≡ take n ix
   words_index m = ap (take n) (drop-set-lt 16 (downed filled h x n p) 0 1 (omega arith) ∙ downed_16 filled h x n p) ∙ back_index w ix k l n m
 
--- lent again, they begin with it too
-pub lent_part : (w ix : List ℕ) → 16 ≤ length w → (n : ℕ) → n ≤ length ix → length ix ≡ length w - 16
-    → take n (mid_of 16 (length (put_mid 16 (length w - 16) w ix) - 16) (put_mid 16 (length w - 16) w ix)) ≡ take n ix
-lent_part w ix l n m e =
-    let v : List ℕ = put_mid 16 (length w - 16) w ix in
-    let q : length v ≡ length w = same_len_mid 16 (length w - 16) w ix (e ∙ sym (mid_len 16 (length w) w (omega arith))) in
-    take-take n (length v - 16) (drop 16 v) (omega arith) ∙ back_index w ix (length w - 16) l n m
+-- lent again as far as the entries go, they are it, and the least of them is the least of those
+pub least_part : (w ix : List ℕ) → 16 ≤ length w → (n : ℕ) → n ≤ length ix → (t b e p : ℕ)
+    → p ≡ least_of t b e (take (16 + n - 16) (drop 16 (put_mid 16 (length w - 16) w ix))) (length (take (16 + n - 16) (drop 16 (put_mid 16 (length w - 16) w ix))))
+    → p ≡ least_of t b e (take n ix) n
+least_part w ix l n m t b e p q =
+    let z : 16 + n - 16 ≡ n = omega arith in
+    q ∙ ap (λ (i : List ℕ). least_of t b e i (length i)) (ap (λ (k : ℕ). take k (drop 16 (put_mid 16 (length w - 16) w ix))) z ∙ back_index w ix (length w - 16) l n m)
+    ∙ ap (least_of t b e (take n ix)) (length-take-le n ix m)
 
 -- ---- THE LAST STEP OF START
 module _ (c : List ℕ) (b h n : ℕ) (ix : List ℕ) (same : b ≡ blocks_of c) (m : n ≤ length ix) (rows : take n ix ≡ pages b (table_at b (chip_of c) h)) where
@@ -112,10 +115,10 @@ module _ (c : List ℕ) (f : ℕ) (w w' : List ℕ) where
       ∙ ap (λ (x : Bool). refuse 5 (not (sizes_test (length c) (length w))) (refuse 7 (eqb f 0) (refuse 8 (not x) (done (map_in c))))) (sym u)
 
   -- the same area, with 5 or 7
-  pub start_5 : sizes_test (length c) (length w) ≡ false → Starts c w w (start_answer (lent_to_start c f w) (chip_of c)) (Refused 5)
+  pub start_5 : (r : Result ℕ Refusal) → r ≡ Err BadSize → sizes_test (length c) (length w) ≡ false → Starts c w w (start_answer (lent_to_start c f w) (chip_of c)) (answer_of r)
   unfolding refuse
-  start_5 p =
-      subst (λ (s : Says (Map (List ℕ))). Starts c w w s (Refused 5)) (start_by false _ _ p refl refl) (record { size = refl; ends = (refl, λ _. refl, λ e. absurd (omega arith)); cursor = tt })
+  start_5 r e p =
+      rw e (subst (λ (s : Says (Map (List ℕ))). Starts c w w s (Refused 5)) (start_by false _ _ p refl refl) (record { size = refl; ends = (refl, λ _. refl, λ e. absurd (omega arith)); cursor = tt }))
 
   pub start_7 : Sized c w → f ≡ 0 → Starts c w w (start_answer (lent_to_start c f w) (chip_of c)) (Refused 7)
   unfolding refuse

@@ -5,8 +5,7 @@ use Rattle.ring_log.specs.Log.{pages, oldest, run, page_of, U}
 use Rattle.ring_log.specs.Ring.{chip_of, table_at, next, room}
 use Rattle.lent.specs.Area.{blocks_of, mark, passed}
 use Rattle.start.specs.Least.{least_of}
-use Rattle.lent.specs.declared.Answer.{Answer}
-use Rattle.lent.specs.declared.Answer.TheVariants.{Done, Refused}
+use Rattle.lent.specs.Ended.{Answer, Done, Refused}
 
 -- what page p says is replayed into an index: one that holds the pages of the places before s then holds those of the places up to s, whose page is p
 pub record Replays (c : List ℕ) (p : ℕ) (ps ps' : List ℕ) : Type 0 where

@@ -6,8 +6,7 @@ use Rattle.ring_log.specs.Map.{Map}
 use Rattle.ring_log.specs.Ring.{chip_of}
 use Rattle.ring_log.specs.Timely.{Oldest}
 use Rattle.lent.specs.Area.{blocks_of, mark, passed, lent_to_start, Holds}
-use Rattle.lent.specs.declared.Answer.{Answer}
-use Rattle.lent.specs.declared.Answer.TheVariants.{Done, Refused}
+use Rattle.lent.specs.Ended.{Answer, Done, Refused}
 
 -- ---- START, of any bytes, any area: as `start_answer` says. Refused with 5 or 7 it leaves the area as it was, with 8 marked as not started; done, it is
 -- ready. The area keeps its length

@@ -1,15 +1,13 @@
-use mathlib.Core.Path.{ap, ◌∙◌}
-use native.Mathlib.Omega.{arith}
-use Rattle.start.specs.Least.{least_of}
-use Rattle.start.proofs.Cursor.{least_none, least_more}
-use borrow.Author.Rules.{rules}
+-- `start::least` meets its contract. Assumes nothing.
+use Rattle.std.proofs.Common.{ℕ, min, fold, ap, rules, tests, ◌∙◌}
+use Rattle.std.proofs.lemmas.Iterator.{YieldsList-from_slice}
+use Rattle.std.proofs.lemmas.Iterator.Consumers.{fold_from_yields_List}
+use Rattle.start.specs.Least.{log_place_of}
+use Rattle.start.proofs.Cursor.{least_fold}
 use Rattle.start.proofs.least.Goals as goal
 
-pub loop-i-init : goal.loop-i-init
-loop-i-init c = (omega arith, least_none _ _ _ _)
-
-pub loop-i-preserved : goal.loop-i-preserved
-loop-i-preserved c = (search rules, least_more _ _ _ _ _ _ _ _ c.loop-i.invariant.1 c.log_place.ensures c.lesser-p.ensures)
-
 pub returns : goal.returns
-returns c = c.loop-i.invariant.1 ∙ ap (least_of _ _ _ _) (omega arith)
+returns c =
+    fold_from_yields_List _ (λ p q. min p (log_place_of c.oldest.result c.args.head.blocks q)) _ _ c.fold.ensures.ran (YieldsList-from_slice c.args.index.now cc) (λ p q r f k. search (rules, tests))
+    ∙ ap (λ (t : ℕ). fold (λ p q. min p (log_place_of t c.args.head.blocks q)) c.args.end c.args.index.now) c.oldest.ensures.0
+    ∙ least_fold _ _ _ _

@@ -1,12 +1,13 @@
 -- `start::make_ready` meets its contract. Assumes nothing.
-use mathlib.Core.Path.{◌≡◌, ap, ◌∙◌}
+use mathlib.Core.Path.{refl, ap, ◌∙◌}
 use mathlib.Core.List.{List}
 use Prim.Native.Nat.{ℕ, ◌-◌, ◌≤◌}
 use native.Mathlib.Omega.{arith}
 use lib.ListN.{length, set, length-set}
+use lib.Seq.{take-take}
 use borrow.Rule.Slice.PartMut.{mid_len}
 use Rattle.lent.proofs.Area.{lent_before}
-use Rattle.start.proofs.Starts.{lent_part, readies_full, readies_done}
+use Rattle.start.proofs.Starts.{least_part, readies_full, readies_done}
 use borrow.Author.Rules.{rules}
 use Rattle.start.proofs.make_ready.Goals as goal
 
@@ -25,8 +26,8 @@ pub returns : goal.returns
 returns c =
     let w : List ℕ = c.args.work.now in
     let ix : List ℕ = c.replay-n.new.index in
+    let l : 16 ≤ length w = omega (arith, c.requires.sized.0.long) in
     let m : c.replay-n.result ≤ length ix = omega (arith, c.replay-n.auto.index, mid_len 16 (length w) w (omega arith), c.replay-n.ensures.within, c.requires.sized.1, c.requires.sized.0.long) in
-    let same : length ix ≡ length w - 16 = omega (arith, c.replay-n.auto.index, mid_len 16 (length w) w (omega arith)) in
-    (readies_done _ _ _ _ _ c.requires.sized.1 m c.replay-n.ensures.right w _ (length w - 16) _ _ _ _ (omega (arith, c.requires.sized.0.long)) (ap (λ (v : List ℕ). set v 0 1) c.note_down.ensures)
-    (omega arith) (omega (arith, c.find_next-next.ensures.right)) (omega arith) (omega (arith, c.room.ensures))
-    _ _ _ c.block_after-oldest.ensures.0 (omega (arith, c.find_next-next.ensures.right)) (lent_part w ix (omega (arith, c.requires.sized.0.long)) c.replay-n.result m same) c.least-passed.ensures)
+    (readies_done _ _ _ _ _ c.requires.sized.1 m c.replay-n.ensures.right w _ (length w - 16) _ _ _ _ l (ap (λ (v : List ℕ). set v 0 1) c.note_down.ensures)
+    refl c.find_next-next.ensures.right refl (omega (arith, c.room.ensures)) _ _ _ refl (omega (arith, c.find_next-next.ensures.right))
+    (take-take c.replay-n.result c.replay-n.result ix (omega arith)) (least_part w ix l c.replay-n.result m _ _ _ _ c.least-passed.ensures))
