@@ -399,7 +399,7 @@ def swap(text, functions):
 
 
 def narrow(text):
-    """The module's text in which each pair with an i64 or a pointer behind is loaded as its two parts: how far the second is from the first LLVM would take from
+    """The module's text in which each pair with an i64 or a pointer behind is loaded as its two parts: how far apart they are LLVM would take from
     the target. And an address is widened."""
     parts = r"""  \1.a = load \3, ptr \5, align 8
   \1.at = getelementptr i8, ptr \5, i64 8
