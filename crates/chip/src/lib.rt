@@ -100,6 +100,7 @@ fn bytes_at<const N: usize>(chip: &[u8], at: usize) -> [u8; N]
 }
 
 // The bytes of page p.
+#[tactic(auto, unfolding(crate::specs::Chip::page_at))]
 pub fn page_at(chip: &[u8], p: usize) -> Page
     requires { 256 * p + 256 ≤ length chip.now }
     ensures { result ≡ page_at chip.now p }

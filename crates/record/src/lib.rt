@@ -48,14 +48,14 @@ fn longest(form: u8) -> u8
 fn is_value(form: u8, kind: u8, klen: u8, vlen: u8) -> bool
     ensures { result ≡ is_value form kind klen vlen }
 {
-    (kind == Mark::Value.byte()) & (1 <= klen) & (klen <= 16) & (vlen <= longest(form))
+    (kind == Mark::Value.byte()) & (1..=16).contains(&klen) & (vlen <= longest(form))
 }
 
 // Whether bytes 1 to 3 of a page are those of a note.
 fn is_note(kind: u8, klen: u8, vlen: u8) -> bool
     ensures { result ≡ is_note kind klen vlen }
 {
-    (kind == Mark::Note.byte()) & (1 <= klen) & (klen <= 16) & (vlen == 0)
+    (kind == Mark::Note.byte()) & (1..=16).contains(&klen) & (vlen == 0)
 }
 
 // What kind of thing a page says. Four bytes are looked at first: of a blank page no more.

@@ -10,7 +10,7 @@ loop-i-init c = grown_from 0 _ _ refl
 
 pub loop-i-preserved : goal.loop-i-preserved
 loop-i-preserved c =
-    each_turn (turned c.args.set) c.args.dst.now c.args.src.now _ c.loop-i.i c.requires (omega arith) c.loop-i.invariant _ _ c.laid.ensures refl
+    each_turn (turned c.args.set) c.args.dst.now c.args.src.now _ c.loop-i.i c.requires (omega arith) c.loop-i.invariant _ _ c.laid.ensures (omega arith)
 
 pub returns : goal.returns
 returns c =
