@@ -132,7 +132,7 @@ fn counts(high: u8, low: u8, n: u32) -> bool
     requires { n ≤ 2048 }
     ensures { result ≡ eqb (256 * high + low + n) (2032 + ones high + ones low) }
 {
-    256 * u32::from(high) + u32::from(low) + n == 2032 + high.count_ones() + low.count_ones()
+    u32::from(u16::from_be_bytes([high, low])) + n == 2032 + high.count_ones() + low.count_ones()
 }
 
 // The same of a page.
@@ -220,6 +220,7 @@ pub fn fill(page: &mut Page, used: usize)
     ensures { page.new ≡ count_form (take 254 page.old) }
 {
     let zeros = 2032 - ones_to(page, (used + 7) / 8);
-    page[254] = (zeros / 256) as u8;
-    page[255] = (zeros % 256) as u8;
+    let [high, low] = (zeros as u16).to_be_bytes();
+    page[254] = high;
+    page[255] = low;
 }
