@@ -31,10 +31,10 @@ V = r"(?:%[\w.]+|-?\d+|true|false)"
 P = r"%[\w.]+"
 I = r"i(?:1|8|16|32|64)"
 T = r"(?:i1|i8|i16|i32|i64|ptr)"
-PAIR = r"\{ (?:i8, (?:i8|ptr)|(?:i8|ptr), i64) \}"  # what two registers hold: a slice, or an enum's number and what it has; never a place's type
+PAIR = r"\{ (?:i8, (?:i8|ptr)|(?:i8|i64|ptr), i64) \}"  # what two registers hold: a slice, or an enum's number and what it has; never a place's type
 R = rf"(?:{T}|{PAIR})"
 EMPTY = r"@static\.\d+"  # a slice's beginning where it has no byte
-NAME = r"""@(?:"[\w:<>, &\[\]=+'{}#]+"|(?!llvm)[\w.]+)"""
+NAME = r"""@(?:"[\w:<>, &\[\]=+'{}#()*]+"|(?!llvm)[\w.]+)"""
 INSIDE = [
     rf"{P} = alloca (?:i8|i16|i32|i64|ptr|\[\d+ x i8\]), align [1248]",
     rf"{P} = load (?:i8|i16|i32|i64|ptr), ptr {P}, align [1248](?:, !\w+ !\d+)*",
@@ -87,7 +87,7 @@ OUTSIDE = [
     rf"{EMPTY} = private unnamed_addr constant \[0 x i8\] zeroinitializer, align 1",
     DEFINE,
     r"\}",
-    r"[\w.]+:(?:\s+; preds = .*)?",
+    r"[\w.]+:(?:\s+; (?:preds = .*|No predecessors!))?",
     r"declare void @llvm\.(?:memmove|memset|trap)[\w.]*\(.*\) #[1-9]",
     r"declare (?:i8 @llvm\.ctpop\.i8\(i8|i64 @llvm\.ctpop\.i64\(i64)\) #[1-9]",
     r'attributes #0 = \{ nounwind "probe-stack"="inline-asm" "stack-probe-size"="3072" "target-cpu"="x86-64" \}',
@@ -171,10 +171,15 @@ class Pointers:
 
     def find(self, a):
         """The object that a leads into, named by one pointer, and how far into it."""
-        far = 0
+        way = []
         while a in self.parent:
-            a, more = self.parent[a]
+            way.append(a)
+            a = self.parent[a][0]
+        far = 0
+        for b in reversed(way):
+            more = self.parent[b][1]
             far = None if far is None or more is None else far + more
+            self.parent[b] = a, far
         return a, None if None in self.inner.get(a, {}) else far
 
     def object(self, a):
@@ -225,69 +230,94 @@ class Pointers:
             self.same(c, self.content(b, None if far is None or on is None else far + on))
 
 
-def follow(functions, without=()):
-    """Which pointers lead into the same object, by all lines but those of some functions; and what the lines take of the objects and put there: a pointer, how
-    many bytes from there on (None where that isn't known), whether they are a pointer, and the line; and what they copy: to, from, how many bytes, the line."""
-    by_name = {f.name: f for f in functions}
-    pointers, taken, copied = Pointers(), [], []
-    for f in functions:
-        for number, line in f.lines if f.name not in without else []:
-            own = lambda name, f=f: (f.name, name)
-            why = number, f.name, line
+def read_lines(f):
+    """What each line of a function does: (number, line, what, names and numbers)."""
+    out = []
+    for number, line in f.lines:
+        does = lambda what, *of, number=number, line=line: out.append((number, line, what, of))
+        if m := re.match(rf"({P}) = getelementptr .*?ptr ({P}), i64 ({V})$", line):
+            does("move", m[1], m[2], 0 if number in f.lent else int(m[3]) if m[3].isdigit() else None)
+            if number not in f.lent:
+                does("take", m[2], 0, 0, False)
+        elif m := re.match(rf"({P}) = load (ptr|\{{ ptr, i64 \}}), ptr ({P}),", line):
+            does("is there", m[1], m[3], 0)
+            does("take", m[3], 0, 8, True)
+            if m[2] != "ptr":
+                does("take", m[3], 8, 8, False)
+        elif m := re.match(rf"({P}) = load \{{ i8, ptr \}}, ptr ({P}),", line):
+            does("is there", m[1], m[2], 8)
+            does("take", m[2], 0, 1, False)
+            does("take", m[2], 8, 8, True)
+        elif m := re.match(rf"{P} = load \{{ i(8|64), i(8|64) \}}, ptr ({P}),", line):
+            does("take", m[3], 0, int(m[1]) // 8, False)
+            does("take", m[3], int(m[2]) // 8, int(m[2]) // 8, False)
+        elif m := re.match(rf"({P}) = extractvalue (?:\{{ ptr, i64 \}} ({P}), 0|\{{ i8, ptr \}} ({P}), 1)", line):
+            does("move", m[1], m[2] or m[3], 0)
+        elif m := re.match(rf"store ptr ({P}|{EMPTY}), ptr ({P}),", line):
+            does("is there", m[1], m[2], 0)
+            does("take", m[2], 0, 8, True)
+        elif m := re.match(rf"(?:{P} = load|store) i(\d+)(?: {V})?, ptr ({P})", line):
+            does("take", m[2], 0, int(m[1]) // 8, False)
+        elif m := re.match(rf"call void @llvm\.memmove\S*\(ptr ({P}), ptr ({P}), i64 ({V}),", line):
+            does("copy", m[1], m[2], int(m[3]) if m[3].isdigit() else None)
+        elif m := re.match(rf"call void @llvm\.memset\S*\(ptr ({P}), i8 ({V}), i64 ({V}),", line):
+            n = int(m[3]) if m[3].isdigit() else None
+            # 8 bytes 0, or those that a narrower pointer takes of them, are a null pointer, and a number too
+            does("take", m[1], 0, "zeros" if m[2] == "0" and n is not None and n % 8 == 0 else n, False)
+        elif m := re.match(rf"(?:({P}) = )?call (?:void|({R})) ({NAME})\((.*)\)$", line):
+            answer = m[1] if m[2] in ("ptr", "{ ptr, i64 }", "{ i8, ptr }") else None
+            does("call", m[3], [word.split()[-1] for word in m[4].split(", ") if word], answer)
+        elif m := re.match(rf"ret (?:ptr|\{{ ptr, i64 \}}|\{{ i8, ptr \}}) ({P})", line):
+            does("move", "its answer", m[1], 0)
+    return out
 
-            def take(name, n, is_pointer, on=0):
-                taken.append((own(name), on, n, is_pointer, why))
 
-            if m := re.match(rf"({P}) = getelementptr .*?ptr ({P}), i64 ({V})$", line):
-                lent = number in f.lent
-                pointers.same(own(m[1]), own(m[2]), 0 if lent else int(m[3]) if m[3].isdigit() else None)
-                if not lent:
-                    take(m[2], 0, False)
-            elif m := re.match(rf"({P}) = load (ptr|\{{ ptr, i64 \}}), ptr ({P}),", line):
-                pointers.same(own(m[1]), pointers.content(own(m[3])))
-                take(m[3], 8, True)
-                if m[2] != "ptr":
-                    take(m[3], 8, False, on=8)
-            elif m := re.match(rf"{P} = load \{{ i8, (i8|i64) \}}, ptr ({P}),", line):
-                take(m[2], 1, False)
-                take(m[2], *((1, False, 1) if m[1] == "i8" else (8, False, 8)))
-            elif m := re.match(rf"({P}) = load \{{ i8, ptr \}}, ptr ({P}),", line):
-                pointers.same(own(m[1]), pointers.content(own(m[2]), 8))
-                take(m[2], 1, False)
-                take(m[2], 8, True, on=8)
-            elif m := re.match(rf"({P}) = extractvalue (?:\{{ ptr, i64 \}} ({P}), 0|\{{ i8, ptr \}} ({P}), 1)", line):
-                pointers.same(own(m[1]), own(m[2] or m[3]))
-            elif m := re.match(rf"store ptr ({P}|{EMPTY}), ptr ({P}),", line):
-                pointers.same(own(m[1]), pointers.content(own(m[2])))
-                take(m[2], 8, True)
-            elif m := re.match(rf"(?:{P} = load|store) i(\d+)(?: {V})?, ptr ({P})", line):
-                take(m[2], int(m[1]) // 8, False)
-            elif m := re.match(rf"call void @llvm\.memmove\S*\(ptr ({P}), ptr ({P}), i64 ({V}),", line):
-                n = int(m[3]) if m[3].isdigit() else None
+class Followed:
+    """Which pointers lead into the same object, call by call from the exported functions on, each function anew at each call. A pointer is (call, name).
+    `taken` is what the lines take of the objects and put there: a pointer, how far from it, how many bytes (None where that isn't known), whether they are a
+    pointer, and the line; `copied` what they copy: to, from, how many bytes, the line; `calls` of each function its calls."""
+
+    def __init__(self, functions, without=()):
+        self.by_name, self.without = {f.name: f for f in functions}, without
+        self.does = {f.name: read_lines(f) for f in functions}
+        self.pointers, self.taken, self.copied, self.calls = Pointers(), [], [], collections.defaultdict(list)
+        for f in functions:
+            if not f.internal:
+                self.follow(f.name, f.name, ())
+
+    def follow(self, name, call, above):
+        if name in above:
+            refuse(f"{name} of the module calls itself")
+        self.calls[name].append(call)
+        for number, line, what, of in self.does[name] if name not in self.without else []:
+            why = number, name, line
+            if what == "move":
+                self.pointers.same((call, of[0]), (call, of[1]), of[2])
+            elif what == "is there":
+                self.pointers.same((call, of[0]), self.pointers.content((call, of[1]), of[2]))
+            elif what == "take":
+                self.taken.append(((call, of[0]), *of[1:], why))
+            elif what == "copy":
+                a, b, n = (call, of[0]), (call, of[1]), of[2]
                 for on in range(0, n, 8) if n is not None else [None]:
-                    pointers.same(pointers.content(own(m[1]), on), pointers.content(own(m[2]), on))
-                copied.append((own(m[1]), own(m[2]), n, why))
-                for name in m[1], m[2]:
-                    take(name, 0 if n is not None else None, False)
-            elif m := re.match(rf"call void @llvm\.memset\S*\(ptr ({P}), i8 ({V}), i64 ({V}),", line):
-                n = int(m[3]) if m[3].isdigit() else None
-                # 8 bytes 0, or those that a narrower pointer takes of them, are a null pointer, and a number too
-                take(m[1], "zeros" if m[2] == "0" and n is not None and n % 8 == 0 else n, False)
-            elif m := re.match(rf"(?:({P}) = )?call (void|{R}) ({NAME})\((.*)\)$", line):
-                for (kind, name), word in zip(by_name[m[3]].parameters, m[4].split(", ")):
+                    self.pointers.same(self.pointers.content(a, on), self.pointers.content(b, on))
+                self.copied.append((a, b, n, why))
+                self.taken += [(p, 0, 0 if n is not None else None, False, why) for p in (a, b)]
+            else:
+                inner = sum(map(len, self.calls.values()))
+                for (kind, parameter), word in zip(self.by_name[of[0]].parameters, of[1]):
                     if kind == "ptr":
-                        pointers.same((m[3], name), own(word.split()[-1]))
-                if m[2] in ("ptr", "{ ptr, i64 }", "{ i8, ptr }"):
-                    pointers.same((m[3], "its answer"), own(m[1]))
-            elif m := re.match(rf"ret (?:ptr|\{{ ptr, i64 \}}|\{{ i8, ptr \}}) ({P})", line):
-                pointers.same(own("its answer"), own(m[1]))
-    return pointers, taken, copied
+                        self.pointers.same((inner, parameter), (call, word))
+                if of[2]:
+                    self.pointers.same((inner, "its answer"), (call, of[2]))
+                self.follow(of[0], inner, above + (name,))
 
 
 def check_places(functions):
     """Pointers are stored in places on the stack only; and each byte of a place is part of a pointer in all lines that take it or in none, by whichever way the
     line came to the place, and so are the bytes that it is copied to; and no part of a pointer is taken or copied without the rest."""
-    pointers, taken, copied = follow(functions)
+    followed = Followed(functions)
+    pointers, taken, copied = followed.pointers, followed.taken, followed.copied
     kinds = collections.defaultdict(dict)  # of an object: the bytes that are known, and of which pointer each is part, by where that begins; None, of a number
     plain = {}  # objects that have no pointer: a line takes a byte of them as part of a number, and which byte that is isn't known here
     mixed = "a byte is part of a pointer in one line of the module and of a number in another"
@@ -352,7 +382,8 @@ def check_headers(exported, header, driver):
 def check_handed_on(functions, header):
     """The pointers chip and noise of the exported functions come to the three, and nothing else looks through them: see the top, 3."""
     by_name = {f.name: f for f in functions}
-    pointers, taken, _ = follow(functions, SWAPPED)
+    followed = Followed(functions, SWAPPED)
+    pointers, taken = followed.pointers, followed.taken
     lent = [(name, (f"@{f}", p[1])) for f in header for (_, name), p in zip(header[f], by_name[f"@{f}"].parameters)]
     for word in "chip", "noise":
         ours = [p for name, p in lent if name == word]
@@ -364,9 +395,9 @@ def check_handed_on(functions, header):
                 refuse(f"line {number} of the module, in {name}, looks through the pointer {word}: {line}")
         if any(pointers.object(p) == one for name, p in lent if name != word):
             refuse(f"the pointer {word} and another one that is lent come to the same place in the module")
-        for f in SWAPPED:
+        for f, call in ((f, call) for f in SWAPPED for call in followed.calls[f]):
             for i, (kind, name) in enumerate(by_name[f].parameters):
-                p = (f, name)
+                p = (call, name)
                 holds = any(pointers.object(c) == one for c in pointers.contents(p))
                 if kind == "ptr" and ((pointers.object(p) == one) != ((f, i) in PLACES[word]) or holds):
                     refuse(f"{f} isn't always given the {word}, or is given it as something else")
