@@ -1,22 +1,15 @@
 -- What is seen, page by page; and that the counts add up. Assumes nothing.
 use mathlib.Core.Path.{◌≡◌, refl, sym, ap, ◌∙◌}
-use mathlib.Core.Logic.{◌≢◌}
-use mathlib.Core.Bool.{Bool, true, false, true≢false}
-use mathlib.Core.List.{List, [], ◌∷◌}
+use mathlib.Core.List.{List}
 use mathlib.Core.Option.{Option, none, some}
-use Prim.Native.Nat.{ℕ, zero, suc, ◌+◌, ◌/◌, ◌<◌}
-use native.Mathlib.Numerals.{add-one}
+use Prim.Native.Nat.{ℕ, zero, suc, ◌+◌, ◌<◌}
 use native.Mathlib.Omega.{arith}
-use borrow.Author.Tests.{eq-eqb, ne_eqb, eqb-true, eqb-false}
-use lib.ListN.{length, set}
 use Rattle.page.specs.Look.{look_of}
 use Rattle.page.specs.declared.Look.{Look}
 use Rattle.page.specs.declared.Look.TheVariants.{Blank, Sound, Spoilt}
 use Rattle.chip.specs.Chip.{page_at}
-use Rattle.lent.specs.declared.Answer.{Answer}
-use Rattle.lent.specs.declared.Answer.TheVariants.{Done, Refused}
 use Rattle.survey.specs.declared.Seen.{Seen}
-use Rattle.survey.specs.Seen.{blank_one, sound_one, spoilt_one, count, spoilt_at, or_first, first_spoilt, page_in, byte_in, seen_of, Small, SeesOne, numbers, has_read, Sees}
+use Rattle.survey.specs.Seen.{blank_one, sound_one, spoilt_one, count, spoilt_at, or_first, first_spoilt, page_in, byte_in, seen_of, Small, SeesOne}
 
 abbrev saw : ℕ → ℕ → ℕ → ℕ → ℕ → Seen
 saw a b d x i = record { blank = a; sound = b; spoilt = d; page = x; byte = i }
@@ -140,12 +133,11 @@ module _ (s : Seen) (p : ℕ) (small : Small p s) where
         one = λ c h l. sees_sound c p s.blank s.sound s.spoilt s.page s.byte h (sym z ∙ l);
       }
 
-  pub see_first : (j q u : ℕ) → s.spoilt ≡ 0 → q ≡ p → u ≡ j → SeesOne (Spoilt j) p s (saw s.blank s.sound (s.spoilt + 1) q u)
-  see_first j q u y eq eu =
+  pub see_first : (j : ℕ) → s.spoilt ≡ 0 → SeesOne (Spoilt j) p s (saw s.blank s.sound (s.spoilt + 1) p j)
+  see_first j y =
       record {
         small = record { is = omega (arith, small.is) };
-        one = λ c h l.
-            saw_eq refl refl refl eq eu ∙ sees_first c p s.blank s.sound s.spoilt s.page s.byte h j l y;
+        one = λ c h l. sees_first c p s.blank s.sound s.spoilt s.page s.byte h j l y;
       }
 
   pub see_later : (j : ℕ) → 0 < s.spoilt → SeesOne (Spoilt j) p s (saw s.blank s.sound (s.spoilt + 1) s.page s.byte)
@@ -154,38 +146,3 @@ module _ (s : Seen) (p : ℕ) (small : Small p s) where
         small = record { is = omega (arith, small.is) };
         one = λ c h l. sees_later c p s.blank s.sound s.spoilt s.page s.byte h j l y;
       }
-
--- the loop
-pub small_next : (k : Look) (p : ℕ) (s r : Seen) → SeesOne k p s r → Small (p + 1) r
-small_next k p s r y = record { is = omega (arith, y.small.is) }
-
-pub seen_next : (c : List ℕ) (k : Look) (p q : ℕ) (s r : Seen) → SeesOne k p s r → s ≡ seen_of c p → k ≡ look_of (page_at c q) → q ≡ p → r ≡ seen_of c (p + 1)
-seen_next c k p q s r y h e n = y.one c h (e ∙ ap (λ (x : ℕ). look_of (page_at c x)) n) ∙ ap (seen_of c) (sym (add-one p))
-
-pub seen_all : (c : List ℕ) (p n : ℕ) (s : Seen) → p ≡ n → s ≡ seen_of c p → s ≡ seen_of c n
-seen_all c p n s e h = h ∙ ap (seen_of c) e
-
--- five stores to a list of five
-pub five_set : (l : List ℕ) (a b d x i : ℕ) → length l ≡ 5 → set (set (set (set (set l 0 a) 1 b) 2 d) 3 x) 4 i ≡ a ∷ b ∷ d ∷ x ∷ i ∷ []
-five_set [] a b d x i e = absurd (omega arith)
-five_set (_ ∷ []) a b d x i e = absurd (omega arith)
-five_set (_ ∷ _ ∷ []) a b d x i e = absurd (omega arith)
-five_set (_ ∷ _ ∷ _ ∷ []) a b d x i e = absurd (omega arith)
-five_set (_ ∷ _ ∷ _ ∷ _ ∷ []) a b d x i e = absurd (omega arith)
-five_set (_ ∷ _ ∷ _ ∷ _ ∷ _ ∷ []) a b d x i e = refl
-five_set (_ ∷ _ ∷ _ ∷ _ ∷ _ ∷ _ ∷ l) a b d x i e = absurd (omega arith)
-
--- a test that holds of 8 alone, however the code writes it
-pub is_eight : (r : Answer) (k : ℕ) → r ≡ Refused k → (t : Bool) → (t ≡ true → k ≡ 8) → (t ≡ false → k ≢ 8) → t ≡ has_read r
-is_eight r k e true is not = sym (ap has_read e ∙ eq-eqb k 8 (is refl))
-is_eight r k e false is not = sym (ap has_read e ∙ ne_eqb k 8 (not refl))
-
--- the numbers by how the start ended
-module _ (c l l' : List ℕ) where
-  pub sees_read : (r : Answer) → has_read r ≡ true → l' ≡ numbers (seen_of c (length c / 256)) → Sees c l l' r
-  sees_read (Done n) h e = record { ends = e }
-  sees_read (Refused k) h e = record { ends = (λ q. e, λ q. absurd (q (eqb-true k 8 h))) }
-
-  pub sees_unread : (r : Answer) → has_read r ≡ false → l' ≡ l → Sees c l l' r
-  sees_unread (Done n) h e = absurd (true≢false h)
-  sees_unread (Refused k) h e = record { ends = (λ q. absurd (eqb-false k 8 h q), λ q. e) }

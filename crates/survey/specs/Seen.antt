@@ -5,8 +5,7 @@ use Rattle.page.specs.Look.{look_of}
 use Rattle.page.specs.declared.Look.{Look}
 use Rattle.page.specs.declared.Look.TheVariants.{Blank, Sound, Spoilt}
 use Rattle.chip.specs.Chip.{page_at}
-use Rattle.lent.specs.declared.Answer.{Answer}
-use Rattle.lent.specs.declared.Answer.TheVariants.{Done, Refused}
+use Rattle.lent.specs.Ended.{Answer, Done, Refused}
 use Rattle.survey.specs.declared.Seen.{Seen}
 
 -- 1 for a page of the kind, 0 for another
@@ -76,9 +75,6 @@ pub record SeesOne (look : Look) (p : ℕ) (s r : Seen) : Type 0 where
 -- the five numbers, in their order
 abbrev pub numbers : Seen → List ℕ
 numbers s = s.blank ∷ s.sound ∷ s.spoilt ∷ s.page ∷ s.byte ∷ []
-
-pub record Noted (l : List ℕ) (s : Seen) : Type 0 where
-  pub is : l ≡ numbers s
 
 -- a start that ended so read the chip: it is done, or it is refused with 8, for these bytes are no store
 abbrev pub has_read : Answer → Bool

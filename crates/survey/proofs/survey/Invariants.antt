@@ -1,11 +1,7 @@
 -- `survey::survey` meets its contract. The invariant: what is seen so far. Assumes nothing.
 use mathlib.Core.Path.{◌≡◌}
-use Prim.Native.Nat.{◌-◌, ◌≤◌}
 use Rattle.survey.specs.Seen.{seen_of, Small}
 use Rattle.survey.proofs.survey.Given as goal
 
 abbrev pub invariant-loop-p : goal.invariant-loop-p
-invariant-loop-p l = (l.p ≤ l.n) × Small l.p l.s × (l.s ≡ seen_of l.chip l.p)
-
-abbrev pub decreases-loop-p : goal.decreases-loop-p
-decreases-loop-p l = l.n - l.p
+invariant-loop-p l = Small l.p l.s × (l.s ≡ seen_of l.chip l.p)
