@@ -3,15 +3,13 @@
 // page is, what is left of the script, and how many bytes elsewhere changed.
 #![tactic(auto)]
 
-ghost use Rattle.std.specs.Prelude.{◌+◌, ◌*◌, ◌≤◌, length};
+ghost use Rattle.std.specs.Prelude.{◌≡◌, ◌≤◌, length};
 
+use chip::{Chip, Halt};
 use page::Page;
 use std::io;
 use std::ops::Range;
 use trying::{NOISES, Noise, Says};
-
-// A chip of two blocks.
-type Chip = [u8; 8192];
 
 // What the fault scripts cut.
 #[derive(Clone, Copy)]
@@ -21,10 +19,12 @@ enum Operation {
 }
 
 impl Operation {
-    fn run(self, chip: &mut Chip, fuse: &mut u64, noise: &[u8; 4096]) {
+    fn run(self, chip: &mut Chip<'_>) -> Result<(), Halt>
+        requires { length chip.old.bytes.now ≡ 8192 }
+    {
         match self {
-            Operation::Write => put(chip, 2, b"new", fuse, noise),
-            Operation::Erase => chip::erase(chip, 0, fuse, noise),
+            Operation::Write => chip.write(2, &value(b"new")),
+            Operation::Erase => chip.erase(0),
         }
     }
 
@@ -81,42 +81,46 @@ fn print_page(rt: &impl Print, page: &Page) -> io::Result<()> {
     print!(rt; "{blank}{sound}, says {}", Says(record::kind_of(page)))
 }
 
-// Writes a value to page p if it is blank.
-fn put(chip: &mut Chip, p: usize, value: &[u8], fuse: &mut u64, noise: &[u8; 4096])
-    requires { (256 * p + 256 ≤ 8192) × (length value.now ≤ 96) }
+// The page of a value of the key `key`.
+fn value(value: &[u8]) -> Page
+    requires { length value.now ≤ 96 }
 {
-    if chip::blank_at(chip, p) {
-        chip::write(chip, p, &record::encode(false, b"key", value), fuse, noise);
-    }
+    record::encode(false, b"key", value)
 }
 
-// A chip with a value on page 1 and on page 17, and else blank.
-fn set_up() -> Chip {
-    let mut chip = [0u8; 8192];
-    let noise = [0u8; 4096];
+// The chip has a value on page 1 and on page 17, and is blank else.
+fn lay_out(chip: &mut Chip<'_>) -> Result<(), Halt>
+    requires { length chip.old.bytes.now ≡ 8192 }
+{
+    chip.erase(0)?;
+    chip.erase(1)?;
+    chip.write(1, &value(b"old"))?;
+    chip.write(17, &value(b"other"))
+}
+
+// Such a chip, of two blocks. The power stays on, so that nothing halts.
+fn set_up() -> [u8; 8192] {
+    let mut bytes = [0u8; 8192];
     let mut fuse = 9;
-    chip::erase(&mut chip, 0, &mut fuse, &noise);
-    chip::erase(&mut chip, 1, &mut fuse, &noise);
-    put(&mut chip, 1, b"old", &mut fuse, &noise);
-    put(&mut chip, 17, b"other", &mut fuse, &noise);
-    chip
+    let _ = lay_out(&mut Chip::new(&mut bytes, &mut fuse, &[0u8; 4096]));
+    bytes
 }
 
 // The operation under a fault script, with a noise, on such a chip.
 fn try_cut(rt: &impl Print, operation: Operation, script: u64, noise: Noise) -> io::Result<()> {
     let before = set_up();
-    let mut chip = before;
+    let mut after = before;
     let mut fuse = script;
-    let forged = record::encode(false, b"key", b"forged");
-    operation.run(&mut chip, &mut fuse, &noise.bytes(&forged));
+    let left = noise.bytes(&value(b"forged"));
+    let _ = operation.run(&mut Chip::new(&mut after, &mut fuse, &left));
     print!(rt;
         "{}, script {script}, noise {}",
         operation.name(),
         title(noise)
     )?;
-    print_page(rt, &chip::page_at(&chip, operation.page()))?;
+    print_page(rt, &chip::page_at(&after, operation.page()))?;
     let Range { start, end } = operation.reach();
-    let elsewhere = trying::changed(&before, &chip, start, end);
+    let elsewhere = trying::changed(&before, &after, start, end);
     println!(rt; ", left of the script {fuse}, changed elsewhere {elsewhere}")
 }
 

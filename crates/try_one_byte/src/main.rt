@@ -8,9 +8,9 @@ use page::Page;
 use std::io;
 
 // How many pairs, and how many triples, a cut write may leave.
-const PAIRS: u64 = 256;
+const PAIRS: u16 = 256;
 
-const TRIPLES: u64 = 16384;
+const TRIPLES: u16 = 16384;
 
 // ---- the flipped copy
 
@@ -24,9 +24,9 @@ fn sound_pair(x: u8, y: u8) -> bool {
 
 // The noise's bits 1 to 7 go to the payload, and its bit 0 to the copy, whose one 0 bit that is.
 fn try_pairs(rt: &impl Print) -> io::Result<()> {
-    for noise in 0..PAIRS {
-        let x = 0x01 | noise as u8;
-        let y = 0xFE | noise as u8;
+    for noise in 0..=u8::MAX {
+        let x = 0x01 | noise;
+        let y = 0xFE | noise;
         if sound_pair(x, y) {
             println!(rt; "sound: {x:02x} {y:02x}")?;
         }
@@ -61,9 +61,10 @@ fn try_triples(rt: &impl Print) -> io::Result<()> {
         whole[1], whole[254], whole[255]
     )?;
     for noise in 0..TRIPLES {
-        let x = 0x01 | (noise % 256) as u8;
-        let high = 0x07 | (noise / 256 % 32 * 8) as u8;
-        let low = 0xEE | (noise % 2) as u8 | (noise / 8192 % 2 * 16) as u8;
+        let [bits, more] = noise.to_le_bytes();
+        let x = 0x01 | bits;
+        let high = 0x07 | more % 32 * 8;
+        let low = 0xEE | bits % 2 | more / 32 % 2 * 16;
         if sound_triple(x, high, low) {
             println!(rt; "sound: {x:02x} {high:02x} {low:02x}")?;
         }

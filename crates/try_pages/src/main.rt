@@ -2,8 +2,9 @@
 // place. docs/FORMAT.md shows the first and the last. Then the three examples of document 02, request 3.
 #![tactic(auto)]
 
-ghost use Rattle.std.specs.Prelude.{◌+◌, ◌*◌, ◌≤◌, length};
+ghost use Rattle.std.specs.Prelude.{◌≡◌, ◌+◌, ◌*◌, ◌≤◌, length};
 
+use chip::{Chip, Halt};
 use page::Page;
 use std::io;
 use trying::Says;
@@ -31,29 +32,26 @@ fn print_page(rt: &impl Print, chip: &[u8], p: usize) -> io::Result<()>
 
 // ---- the pages
 
-// Writes a page where the chip is blank.
-fn write(chip: &mut [u8; 4096], p: usize, page: &Page)
-    requires { 256 * p + 256 ≤ 4096 }
+// The page of the old form says what the first does.
+fn write_pages(chip: &mut Chip<'_>) -> Result<(), Halt>
+    requires { length chip.old.bytes.now ≡ 4096 }
 {
-    let mut fuse = 2;
-    if chip::blank_at(chip, p) {
-        chip::write(chip, p, page, &mut fuse, &[0u8; 4096]);
-    }
-}
-
-// A chip of one block with the pages: the one of the old form says what the first does.
-fn written() -> [u8; 4096] {
-    let mut chip = [255u8; 4096];
     let value = record::encode(false, b"a", b"1");
-    write(&mut chip, 0, &value);
-    write(
-        &mut chip,
+    chip.write(0, &value)?;
+    chip.write(
         1,
         &record::encode(true, b"sensor/temp/0016", b"not written"),
-    );
-    write(&mut chip, 15, &record::seal());
-    write(&mut chip, 2, &trying::old_page(&value));
-    chip
+    )?;
+    chip.write(15, &record::seal())?;
+    chip.write(2, &trying::old_page(&value))
+}
+
+// A chip of one block with these pages. The power stays on, so that nothing halts.
+fn written() -> [u8; 4096] {
+    let mut bytes = [255u8; 4096];
+    let mut fuse = 9;
+    let _ = write_pages(&mut Chip::new(&mut bytes, &mut fuse, &[0u8; 4096]));
+    bytes
 }
 
 fn print_pages(rt: &impl Print) -> io::Result<()> {

@@ -39,7 +39,8 @@ impl Noise {
             Noise::Ones => 255,
             Noise::Mixed => (i % 251) as u8,
             Noise::Forged => page[i % 256],
-            Noise::Kept => { if i / 256 == 1 { page[i % 256] } else { 255 } }
+            Noise::Kept if i / 256 == 1 => page[i % 256],
+            Noise::Kept => 255,
         }
     }
 
