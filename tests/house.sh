@@ -21,7 +21,7 @@ plant 'mkdir -p crates/attic/src && echo "// empty" > crates/attic/src/lib.rt &&
 plant 'echo "use keys::next;" >> crates/survey/src/lib.rt' "$picture"
 plant 'echo "use Rattle.survey.specs.Seen.{Sees}" >> crates/histories/specs/History.antt' "$picture"
 plant 'sed -i "s/page::is_sound(page)/true/" crates/record/src/lib.rt' "$picture"
-plant 'sed -i "s/chip::write(chip, p/chip::erase(chip, p/" crates/*/src/lib.rt' "$picture"
+plant 'sed -i "s/chip\.write(p, /chip.erase(p, /" crates/*/src/lib.rt' "$picture"
 plant 'sed -i "/^| .page. |/d" docs/HOUSE.md' "docs/HOUSE.md has no line for page"
 plant 'echo "| \`cellar\` | | |" >> docs/HOUSE.md' "docs/HOUSE.md has a line for cellar, which is no crate"
 plant 'echo "\`page::is_blink\`" >> docs/HOUSE.md' "docs/HOUSE.md names page::is_blink, which is no function"

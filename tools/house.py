@@ -84,17 +84,27 @@ class Crate:
         self.brought = {}
         for crate, names in re.findall(r"\buse\s+(\w+)\s*::\s*([^;]*);", code):
             self.brought.update({word: crate for word in re.findall(r"\w+", names)})
+        # methods are called TYPE::NAME; those of a trait are left out, as `?` and the like call them
+        impls = [(m[1], m.end() - 1, body(code, m.end() - 1)) for m in re.finditer(r"\bimpl\b(?:<[^>]*>)?\s*(\w+)(?:<[^>]*>)?[^{;]*\{", code)]
         self.bodies, self.ensures = {}, {}
         for m in re.finditer(r"\bfn\s+(\w+)\s*(?:<[^>]*>)?\s*\(", code):
+            name = "".join(f"{of}::" for of, begin, end in impls if begin < m.start() < end) + m[1]
             start = code.find("{", m.end())
-            self.bodies[m[1]] = code[start : body(code, start)]
+            self.bodies[name] = code[start : body(code, start)]
             ensured = " | ".join(text for at, word, text in clauses if word == "ensures" and m.end() <= at <= start)
-            self.ensures[m[1]] = " ".join(re.sub(r"\b(\w+)\.(?:old|now)\b", r"\1", re.sub(r"\b(\w+)\.new\b", r"\1′", ensured)).split())
+            self.ensures[name] = " ".join(re.sub(r"\b(\w+)\.(?:old|now)\b", r"\1", re.sub(r"\b(\w+)\.new\b", r"\1′", ensured)).split())
 
 
 def calls(house, crate, function):
-    """The functions that this one calls, as pairs of crate and name, in the order of the text."""
-    for m in re.finditer(r"(?<![\w.:])(?:(\w+)\s*::\s*)?(\w+)\s*\(", house[crate].bodies[function]):
+    """The functions that this one calls, as pairs of crate and name, in the order of the text. A method is the one of that name in this crate, or in the only
+    crate that has one and that this one knows."""
+    for m in re.finditer(r"(?<![\w:.])(?:(\w+)\s*::\s*)?(\w+)\s*\(|\.\s*(\w+)\s*\(", house[crate].bodies[function]):
+        if m[3] or m[1] and m[1][0].isupper():
+            near = [c for c in house if c == crate or c in house[crate].knows]
+            ours = [(c, f) for c in near for f in house[c].bodies if f.endswith(f"::{m[3]}") or f == f"{m[1]}::{m[2]}"]
+            own = [(c, f) for c, f in ours if c == crate]
+            yield from own if len(own) == 1 else ours if len(ours) == 1 else []
+            continue
         of = m[1] or (crate if m[2] in house[crate].bodies else house[crate].brought.get(m[2]))
         if of in house and m[2] in house[of].bodies:
             yield of, m[2]
@@ -404,7 +414,7 @@ def astray(house, picture):
     functions = {f"{c}::{f}" for c in house for f in house[c].bodies}
     words = set(re.findall(r"[^\W\d][\w-]*", "\n".join(t for c in house for t in sources(c, "src", "specs", "proofs")))) | set(house)
     for name in sorted(set(re.findall(r"`([^` ]+)`", page))):
-        if re.fullmatch(r"\w+::\w+", name) and name not in functions:
+        if re.fullmatch(r"\w+(?:::\w+)+", name) and name not in functions:
             yield f"docs/HOUSE.md names {name}, which is no function"
         elif re.fullmatch(r"[\w-]+", name) and name not in words:
             yield f"docs/HOUSE.md names {name}, which stands nowhere in crates/"
