@@ -1,199 +1,187 @@
 // A history, whose calls are the lines of a script, is run with a fuse; after the cut the store is started, and its map must be the one before the call that
 // was cut or the one after it.
 //
-// A place in the history is the index at which the next call's line begins. The first line is the first start, so that 0 is never the place of a map.
+// A place in the history is how many calls stand before it. The first call is the first start, so that 0 is never the place of a map.
 #![tactic(auto)]
 
-ghost use Rattle.std.specs.Prelude.{◌≤◌, ◌<◌, length};
+ghost use Rattle.std.specs.Prelude.{◌≤◌, length, vec_len, IfOk, IfSome};
+
+use calls::{Bench, Call};
+use lent::Refusal;
+use std::alloc::{AllocError, Global};
 
 // Power for longer than the history lasts.
 pub const LONG: u64 = 1000;
 
+// ---- the history
+
+// A line of the script: its call, and the words of its key and its value; no bytes for none.
+#[derive(Drop)]
+pub struct Step<'a> {
+    pub call: Option<Call>,
+    pub key: &'a [u8],
+    pub value: &'a [u8],
+}
+
+fn read_step<'a>(alloc: Global, line: &'a [u8]) -> Result<Step<'a>, AllocError> {
+    Ok(Step {
+        call: Call::read(alloc, line)?,
+        key: trying::word(line, 1),
+        value: trying::word(line, 2),
+    })
+}
+
+// The steps of a script, a line each.
+pub fn history<'a>(alloc: Global, script: &'a [u8]) -> Result<Vec<Step<'a>>, AllocError>
+    ensures { IfOk result (λ steps. vec_len steps ≤ length script.now) }
+{
+    let lines = trying::lines(alloc, script)?;
+    let mut steps = Vec::new(alloc);
+    for line in &lines {
+        steps.push(read_step(alloc, line)?)?;
+    }
+    Ok(steps)
+}
+
 // ---- the map
 
-// The line's place if its call is of that key, and else the last one.
-fn later(script: &[u8], at: usize, last: usize, key: &[u8]) -> usize
-    requires { (at ≤ length script.now) × (last ≤ length script.now) }
-    ensures { result ≤ length script.now }
-{
-    if trying::word(trying::line(script, at), 1) == key {
-        return at;
-    }
-    last
+// The value that these calls leave the key with; no bytes for none.
+fn due_value<'a>(done: &[Step<'a>], key: &[u8]) -> &'a [u8] {
+    done.iter()
+        .rfind(|step| step.key == key)
+        .map_or(&[], |step| step.value)
 }
 
-// The value that the calls before n leave the key with; no bytes for none.
-fn due_value<'a>(script: &'a [u8], n: usize, key: &[u8]) -> &'a [u8]
-    requires { n ≤ length script.now }
-{
-    let mut last = script.len();
-    let mut at = 0;
-    while at < n {
-        last = later(script, at, last, key);
-        at = trying::next(script, at);
-    }
-    trying::word(trying::line(script, last), 2)
-}
-
-// What get answered, against what was due: 0, there is no value, as it should be; 1, it is the right one; 99 for anything else.
-fn judge(due: &[u8], refusal: u32, n: usize, buffer: &[u8]) -> usize
-    ensures { result ≤ 99 }
-{
-    if refusal == 4 {
-        return if due.len() == 0 { 0 } else { 99 };
-    }
-    let m = due.len().min(buffer.len());
-    if (refusal == 0) & (n != 0) & (n == due.len()) & (due == &buffer[..m]) {
-        1
-    } else {
-        99
-    }
-}
-
-// Whether key k, of which 0 is a, is as the calls before n leave it: 0, it has no value; 1, it has the right one; 99 for anything else.
-fn check_key(script: &[u8], n: usize, k: u8, chip: &[u8], work: &[u32]) -> usize
-    requires { (n ≤ length script.now) × (k < 8) }
-    ensures { result ≤ 99 }
-{
-    let key = [97 + k];
-    let fuse = LONG;
+// Whether get answers the value that is due; or that there is none, where none is.
+fn reads(due: &[u8], key: u8, bench: &Bench) -> bool {
     let mut buffer = [0u8; 220];
-    let answer = calls::get(chip, work, &fuse, &key, &mut buffer);
-    let due = due_value(script, n, &key);
-    judge(due, calls::refusal(answer), calls::amount(answer), &buffer)
+    match bench.get(&[key], &mut buffer) {
+        Ok(n) => n != 0 && buffer.get(..n) == Some(due),
+        Err(Refusal::NoValue) => due.is_empty(),
+        Err(_) => false,
+    }
 }
 
-// Whether the map is the one after the calls before n: each of eight keys is, and there are no others.
-fn holds(script: &[u8], n: usize, chip: &[u8], work: &[u32]) -> bool
-    requires { n ≤ length script.now }
-{
-    let mut live = 0;
-    let mut k: u8 = 0;
-    while k < 8 {
-        live += check_key(script, n, k, chip, work);
-        k += 1;
-    }
-    let fuse = LONG;
-    calls::amount(calls::count(chip, work, &fuse)) == live
+// The keys that a history's calls may have.
+const KEYS: [u8; 8] = *b"abcdefgh";
+
+// Whether the map is the one after these calls: each key is as they leave it, and there are no others.
+fn holds(done: &[Step], bench: &Bench) -> bool {
+    let live = KEYS
+        .iter()
+        .filter(|key| !due_value(done, &[**key]).is_empty())
+        .count();
+    bench.count().unwrap_or(0) == live
+        && KEYS
+            .iter()
+            .all(|key| reads(due_value(done, &[*key]), *key, bench))
 }
 
-// Which of two maps it is, by its place; 0 for neither.
-fn map_now(script: &[u8], before: usize, after: usize, chip: &[u8], work: &[u32]) -> usize
-    requires { (before ≤ length script.now) × (after ≤ length script.now) }
-    ensures { result ≤ length script.now }
+// Which of two maps it is, by its place.
+fn map_now(steps: &[Step], before: usize, after: usize, bench: &Bench) -> Option<usize>
+    requires { (before ≤ length steps.now) × (after ≤ length steps.now) }
+    ensures { IfSome result (λ map. map ≤ length steps.now) }
 {
-    if holds(script, before, chip, work) {
-        return before;
-    }
-    if holds(script, after, chip, work) {
-        return after;
-    }
-    0
+    let map = if holds(&steps[..before], bench) {
+        before
+    } else if holds(&steps[..after], bench) {
+        after
+    } else {
+        return None;
+    };
+    if map == 0 { None } else { Some(map) }
 }
 
 // ---- the calls
 
-// What a call answers on the map of place n: 0, and 4 for a delete that was made already.
-fn due(line: &[u8], made: bool) -> u32 {
-    if made & (trying::word(line, 2).len() == 0) {
-        return 4;
+// The call of a line; a line that has none is done.
+fn make(step: &Step, bench: &mut Bench) -> Result<usize, Refusal> {
+    match &step.call {
+        Some(call) => bench.make(call),
+        None => Ok(0),
     }
-    0
 }
 
-// Whether the call of a line is answered as it should be.
-fn answered(
-    line: &[u8],
-    made: bool,
-    chip: &mut [u8],
-    work: &mut [u32],
-    fuse: &mut u64,
-    noise: &[u8; 4096],
-) -> bool {
-    calls::refusal(calls::make(line, chip, work, fuse, noise)) == due(line, made)
+// Whether the call is answered as it should be: it is done, but for a delete that was made already.
+fn is_answered(step: &Step, made: bool, bench: &mut Bench) -> bool {
+    match make(step, bench) {
+        Ok(_) => !made || !step.value.is_empty(),
+        Err(Refusal::NoValue) => made && step.value.is_empty(),
+        Err(_) => false,
+    }
 }
 
 // The calls from there on, on the map of place n, up to the first that isn't answered as it should be. Answers where that is.
-fn run(
-    script: &[u8],
-    from: usize,
-    n: usize,
-    chip: &mut [u8],
-    work: &mut [u32],
-    fuse: &mut u64,
-    noise: &[u8; 4096],
-) -> usize
-    requires { from ≤ length script.now }
-    ensures { result ≤ length script.now }
+fn run(steps: &[Step], from: usize, n: usize, bench: &mut Bench) -> usize
+    ensures { result ≤ length steps.now }
 {
-    let mut at = from;
-    while at < script.len() {
-        if !answered(trying::line(script, at), at < n, chip, work, fuse, noise) {
-            break;
+    for at in from..steps.len() {
+        if !is_answered(&steps[at], at < n, bench) {
+            return at;
         }
-        at = trying::next(script, at);
     }
-    at
-}
-
-// The call of a line, with power that stays. Answers the refusal's number.
-fn make(line: &[u8], chip: &mut [u8], work: &mut [u32], noise: &[u8; 4096]) -> u32 {
-    let mut fuse = LONG;
-    calls::refusal(calls::make(line, chip, work, &mut fuse, noise))
-}
-
-// Whether a start is done.
-fn starts(chip: &mut [u8], work: &mut [u32], noise: &[u8; 4096]) -> bool {
-    make(b"start", chip, work, noise) == 0
+    steps.len()
 }
 
 // The power has gone during that call: it is refused until a start, which is done.
-fn recovers(line: &[u8], chip: &mut [u8], work: &mut [u32], noise: &[u8; 4096]) -> bool {
-    let refused = make(line, chip, work, noise) == 7;
-    starts(chip, work, noise) & refused
+fn recovers(step: &Step, bench: &mut Bench) -> bool {
+    let refused = make(step, bench) == Err(Refusal::PowerGone);
+    bench.start().is_ok() && refused
 }
 
 // Whether after a start the map is the one after all calls.
-pub fn ended(script: &[u8], chip: &mut [u8], work: &mut [u32], noise: &[u8; 4096]) -> bool {
-    let started = starts(chip, work, noise);
-    holds(script, script.len(), chip, work) & started
+pub fn ended(steps: &[Step], bench: &mut Bench) -> bool {
+    bench.fuse = LONG;
+    bench.start().is_ok() && holds(steps, bench)
 }
 
 // ---- a cut
 
-// Which call was cut, by its place; the script's length for none. And of which place the map is that was then found; 0 if something went wrong.
+// Which call was cut, by its place; the history's length for none. And of which place the map is that was then found.
 #[derive(Clone, Copy)]
 pub struct Found {
     pub call: usize,
     pub map: usize,
 }
 
-// The calls from there on, on the map of place n, with that fuse. After a cut the store is started: its map is the one before the cut call or the one after it.
+// The calls from there on, on the map of place n, with that power. After a cut the store is started: its map is the one before the cut call or the one after
+// it. None if something went wrong.
 pub fn survive(
-    script: &[u8],
+    steps: &[Step],
     from: usize,
     n: usize,
-    chip: &mut [u8],
-    work: &mut [u32],
-    noise: &[u8; 4096],
+    bench: &mut Bench,
     power: u64,
-) -> Found
-    requires { from ≤ length script.now }
-    ensures { (result.call ≤ length script.now) × (result.map ≤ length script.now) }
+) -> Option<Found>
+    ensures { IfSome result (λ found. (found.call ≤ length steps.now) × (found.map ≤ length steps.now)) }
 {
-    let mut fuse = power;
-    let i = run(script, from, n, chip, work, &mut fuse, noise);
-    if script.len() <= i {
-        return Found {
-            call: i,
-            map: map_now(script, i, i, chip, work),
-        };
+    bench.fuse = power;
+    let call = run(steps, from, n, bench);
+    bench.fuse = LONG;
+    let Some(step) = steps.get(call) else {
+        let map = map_now(steps, call, call, bench)?;
+        return Some(Found { call, map });
+    };
+    if !recovers(step, bench) {
+        return None;
     }
-    if !recovers(trying::line(script, i), chip, work, noise) {
-        return Found { call: i, map: 0 };
-    }
-    Found {
-        call: i,
-        map: map_now(script, i, trying::next(script, i), chip, work),
+    let map = map_now(steps, call, call + 1, bench)?;
+    Some(Found { call, map })
+}
+
+#[cfg(test)]
+mod tests {
+    use super::*;
+    use std::test::Fail;
+
+    #[test]
+    fn history_has_a_step_for_each_line(rt: HostRuntime) -> Result<(), Fail> {
+        let steps = history(rt.alloc(), b"start\nput a 1\ndelete a\n")?;
+        assert_eq!(rt; steps.len(), 3);
+        assert_eq!(rt; steps[1].key, b"a".as_slice());
+        assert_eq!(rt; steps[1].value, b"1".as_slice());
+        assert!(rt; matches!(steps[2].call, Some(Call::Delete(_))));
+        assert!(rt; steps[2].value.is_empty());
+        Ok(())
     }
 }

@@ -1,168 +1,216 @@
 // The store's calls with random keys, with power that stays, each answer counted.
 #![tactic(auto)]
 
-ghost use Rattle.std.specs.Prelude.{◌<◌};
+ghost use Rattle.std.specs.Prelude.{◌≡◌, ◌+◌, ◌≤◌, ◌<◌};
+ghost use Rattle.lent.specs.Ended.{number_due};
+ghost use Rattle.tallies.specs.Tallied.{begins, place, raised, noted};
 
-use calls::{PUT, START};
+use calls::Bench;
+use chance::{ChipKind, Dice, Heading};
+use lent::Refusal;
 
-// ---- tallies: 64 numbers for each kind
+// ---- the tally
 
-// From which slot on the ten answers of a call stand, the same for every kind.
-pub const STARTS: usize = 0;
-
-const PUTS: usize = 10;
-
-const GETS: usize = 30;
-
-pub const LATER: usize = 40;
-
-pub fn add(tally: &mut [u64; 512], kind: usize, slot: usize, by: u64) {
-    let i = kind % 8 * 64 + slot % 64;
-    tally[i] = tally[i] % 1000000000 + by % 1000000000;
+// What is counted together: chips of a kind; the stores whose work areas are overwritten; the areas, by what their headings were overwritten with; or all.
+#[derive(Clone, Copy)]
+pub enum Part {
+    Chips(ChipKind),
+    Stores,
+    Areas(Heading),
+    All,
 }
 
-// One more of this answer, in the ten numbers from the slot on.
-pub fn note(tally: &mut [u64; 512], kind: usize, slot: usize, refusal: u32) {
-    add(tally, kind, slot % 64 + (refusal % 10) as usize, 1);
+impl Part {
+    // Where its 64 numbers begin.
+    fn begins(self) -> usize
+        ensures at { result ≡ begins self }
+        ensures in_range { result ≤ 448 }
+    {
+        match self {
+            Part::Chips(ChipKind::Bytes) => 0,
+            Part::Chips(ChipKind::Pages) => 64,
+            Part::Chips(ChipKind::Ring) => 128,
+            Part::Chips(ChipKind::FirstRound) => 192,
+            Part::Stores => 256,
+            Part::Areas(Heading::Tame) => 320,
+            Part::Areas(Heading::Wild) => 384,
+            Part::All => 448,
+        }
+    }
+}
+
+// What is counted: a call's ten answers, or a sum.
+#[derive(Clone, Copy)]
+pub enum Slot {
+    Start,
+    Put,
+    Delete,
+    Get,
+    StartAgain,
+    Count,
+    // Keys, and what was read of their values, at the start; keys after the changes; both after another start.
+    KeysFirst,
+    ValuesFirst,
+    KeysChanged,
+    KeysAgain,
+    ValuesAgain,
+    // Of areas: bytes that a put or a delete changed, and keys that were counted.
+    BytesChanged,
+    KeysCounted,
+    // Of all: calls on overwritten areas, refusals that changed the chip, and bytes of buffers that changed past the value.
+    Calls,
+    Spoilt,
+    Past,
+}
+
+impl Slot {
+    // Its place among a part's numbers; of answers, that of the first.
+    fn place(self) -> usize
+        ensures at { result ≡ place self }
+        ensures in_range { result ≤ 54 }
+    {
+        match self {
+            Slot::Start | Slot::Calls => 0,
+            Slot::Spoilt => 1,
+            Slot::Past => 2,
+            Slot::Put => 10,
+            Slot::Delete => 20,
+            Slot::Get => 30,
+            Slot::StartAgain | Slot::Count => 40,
+            Slot::KeysFirst | Slot::BytesChanged => 50,
+            Slot::ValuesFirst | Slot::KeysCounted => 51,
+            Slot::KeysChanged => 52,
+            Slot::KeysAgain => 53,
+            Slot::ValuesAgain => 54,
+        }
+    }
+}
+
+// 64 numbers for each part.
+#[derive(Drop)]
+pub struct Tally {
+    pub numbers: [u64; 512],
+}
+
+impl Tally {
+    fn raise(&mut self, i: usize, by: u64)
+        requires { i < 512 }
+        ensures { self.new.numbers ≡ raised self.old.numbers i by }
+    {
+        self.numbers[i] = self.numbers[i].saturating_add(by);
+    }
+
+    pub fn add(&mut self, part: Part, slot: Slot, by: u64)
+        ensures { self.new.numbers ≡ raised self.old.numbers (begins part + place slot) by }
+    {
+        self.raise(part.begins() + slot.place(), by);
+    }
+
+    // One more of this answer.
+    pub fn note(&mut self, part: Part, slot: Slot, answer: Result<usize, Refusal>)
+        ensures { self.new.numbers ≡ noted self.old.numbers part slot (number_due answer) }
+    {
+        let number = match answer {
+            Ok(_) => 0,
+            Err(refusal) => refusal.number() as usize,
+        };
+        self.raise(part.begins() + slot.place() + number, 1);
+    }
 }
 
 // ---- the calls, with power that stays
 
-pub const UNCUT: u64 = 1000000;
-
-// A call that may change the chip. Answers the refusal's number.
-pub fn make(which: usize, chip: &mut [u8], work: &mut [u32], key: u8, value: u8) -> u32 {
-    let noise = [0u8; 4096];
-    let mut fuse = UNCUT;
-    let one = [key];
-    let other = [value];
-    calls::refusal(calls::call(which, chip, work, &mut fuse, &noise, &one, &other))
+// A store whose answers are counted, and the dice that choose keys and values.
+#[derive(Drop)]
+pub struct Trial {
+    pub bench: Bench,
+    pub dice: Dice,
+    pub tally: Tally,
+    pub part: Part,
 }
 
-// A start, and its answer noted.
-pub fn start(
-    chip: &mut [u8],
-    work: &mut [u32],
-    tally: &mut [u64; 512],
-    kind: usize,
-    slot: usize,
-) -> u32 {
-    let k = make(START, chip, work, 0, 0);
-    note(tally, kind, slot, k);
-    k
-}
-
-// The value of a put; a delete has none.
-fn random_value(which: usize, x: &mut u64) -> u8 {
-    if which == PUT {
-        return chance::random_byte(x);
+impl Trial {
+    pub fn add(&mut self, slot: Slot, by: u64)
+        ensures { self.new.tally.numbers ≡ raised self.old.tally.numbers (begins self.old.part + place slot) by }
+    {
+        self.tally.add(self.part, slot, by);
     }
-    0
-}
 
-// A put or a delete of a random key, and its answer noted.
-pub fn change(
-    which: usize,
-    chip: &mut [u8],
-    work: &mut [u32],
-    tally: &mut [u64; 512],
-    kind: usize,
-    x: &mut u64,
-) -> u32
-    requires { which < 2 }
-{
-    let key = chance::random_key(x);
-    let k = make(which, chip, work, key, random_value(which, x));
-    note(tally, kind, PUTS + 10 * which, k);
-    k
-}
-
-// Puts and deletes in turn.
-pub fn change_often(
-    chip: &mut [u8],
-    work: &mut [u32],
-    tally: &mut [u64; 512],
-    kind: usize,
-    times: usize,
-    x: &mut u64,
-) {
-    let mut i = 0;
-    while i < times {
-        change(i % 2, chip, work, tally, kind, x);
-        i += 1;
+    pub fn note(&mut self, slot: Slot, answer: Result<usize, Refusal>)
+        ensures { self.new.tally.numbers ≡ noted self.old.tally.numbers self.old.part slot (number_due answer) }
+    {
+        self.tally.note(self.part, slot, answer);
     }
-}
 
-// How many keys there are.
-fn add_count(chip: &[u8], work: &[u32], tally: &mut [u64; 512], kind: usize, slot: usize) {
-    let fuse = UNCUT;
-    let many = calls::amount(calls::count(chip, work, &fuse));
-    add(tally, kind, slot, many as u64);
-}
-
-// Gets the key, and notes the answer. Answers the value's length.
-pub fn get(
-    chip: &[u8],
-    work: &[u32],
-    tally: &mut [u64; 512],
-    kind: usize,
-    key: u8,
-    buffer: &mut [u8],
-) -> usize {
-    let fuse = UNCUT;
-    let one = [key];
-    let answer = calls::get(chip, work, &fuse, &one, buffer);
-    note(tally, kind, GETS, calls::refusal(answer));
-    calls::amount(answer)
-}
-
-// ---- a store is used
-
-fn wide(b: u8) -> u64 {
-    b as u64
-}
-
-// The key is got; the value's length and first byte go to the slot.
-fn read_key(chip: &[u8], work: &[u32], tally: &mut [u64; 512], kind: usize, slot: usize, key: u8) {
-    let mut buffer = [0u8; 220];
-    let n = get(chip, work, tally, kind, key, &mut buffer);
-    add(tally, kind, slot, n as u64);
-    add(tally, kind, slot, wide(buffer[0]));
-}
-
-// All keys are got.
-fn read_all(chip: &[u8], work: &[u32], tally: &mut [u64; 512], kind: usize, slot: usize) {
-    let mut k: u8 = 97;
-    while k < 121 {
-        read_key(chip, work, tally, kind, slot, k);
-        k += 1;
+    pub fn start(&mut self, slot: Slot) -> Result<usize, Refusal>
+        ensures { self.new.tally.numbers ≡ noted self.old.tally.numbers self.old.part slot (number_due result) }
+    {
+        let answer = self.bench.start();
+        self.note(slot, answer);
+        answer
     }
-}
 
-// The keys are counted and got: their number goes to the slot, and what was read to the next.
-fn read_store(chip: &[u8], work: &[u32], tally: &mut [u64; 512], kind: usize, slot: usize)
-    requires { slot < 64 }
-{
-    add_count(chip, work, tally, kind, slot);
-    read_all(chip, work, tally, kind, slot + 1);
-}
+    // A put of a random key.
+    pub fn put(&mut self) -> Result<usize, Refusal>
+        ensures { self.new.tally.numbers ≡ noted self.old.tally.numbers self.old.part Slot.Put (number_due result) }
+    {
+        let key = [self.dice.key()];
+        let value = [self.dice.byte()];
+        let answer = self.bench.put(&key, &value);
+        self.note(Slot::Put, answer);
+        answer
+    }
 
-// The keys are counted, and read after another start.
-fn read_again(chip: &mut [u8], work: &mut [u32], tally: &mut [u64; 512], kind: usize) {
-    add_count(chip, work, tally, kind, 52);
-    start(chip, work, tally, kind, LATER);
-    read_store(chip, work, tally, kind, 53);
-}
+    // A delete of a random key.
+    pub fn delete(&mut self) -> Result<usize, Refusal>
+        ensures { self.new.tally.numbers ≡ noted self.old.tally.numbers self.old.part Slot.Delete (number_due result) }
+    {
+        let key = [self.dice.key()];
+        let answer = self.bench.delete(&key);
+        self.note(Slot::Delete, answer);
+        answer
+    }
 
-// A store that was started is read, changed and counted, started again and read again.
-pub fn use_store(
-    chip: &mut [u8],
-    work: &mut [u32],
-    tally: &mut [u64; 512],
-    kind: usize,
-    x: &mut u64,
-) {
-    read_store(chip, work, tally, kind, 50);
-    change_often(chip, work, tally, kind, 16, x);
-    read_again(chip, work, tally, kind);
+    // Puts and deletes in turn, so many of each.
+    pub fn change_often(&mut self, times: u64) {
+        for _ in 0..times {
+            let _ = self.put();
+            let _ = self.delete();
+        }
+    }
+
+    pub fn get(&mut self, key: u8, buffer: &mut [u8]) -> Result<usize, Refusal>
+        ensures { self.new.tally.numbers ≡ noted self.old.tally.numbers self.old.part Slot.Get (number_due result) }
+    {
+        let answer = self.bench.get(&[key], buffer);
+        self.note(Slot::Get, answer);
+        answer
+    }
+
+    // How many keys there are.
+    fn add_count(&mut self, slot: Slot) {
+        let keys = self.bench.count().unwrap_or(0);
+        self.add(slot, keys as u64);
+    }
+
+    // All keys are got; the values' lengths and first bytes are added.
+    fn read_all(&mut self, slot: Slot) {
+        for key in b'a'..=b'x' {
+            let mut buffer = [0u8; 220];
+            let n = self.get(key, &mut buffer).unwrap_or(0);
+            self.add(slot, n as u64);
+            self.add(slot, u64::from(buffer[0]));
+        }
+    }
+
+    // A store that was started is read, changed and counted, started again and read again.
+    pub fn use_store(&mut self) {
+        self.add_count(Slot::KeysFirst);
+        self.read_all(Slot::ValuesFirst);
+        self.change_often(8);
+        self.add_count(Slot::KeysChanged);
+        let _ = self.start(Slot::StartAgain);
+        self.add_count(Slot::KeysAgain);
+        self.read_all(Slot::ValuesAgain);
+    }
 }

@@ -5,186 +5,198 @@
 // each of its operations in turn.
 #![tactic(auto)]
 
-ghost use Rattle.std.specs.Prelude.{◌≤◌, ◌<◌, length};
-
-use cutting::{Found, LONG};
-use std::io;
+use calls::Bench;
+use cutting::{Found, LONG, Step};
+use std::alloc::{AllocError, Global};
+use std::{fmt, io};
+use trying::{NOISES, Noise};
 
 // How a history went: nothing was cut; the map was the one before the call that was cut, or the one after it; or something went wrong.
-const UNCUT: usize = 0;
+#[derive(Clone, Copy)]
+enum Outcome {
+    Uncut,
+    Before,
+    After,
+    Wrong,
+}
 
-const BEFORE: usize = 1;
+impl Outcome {
+    // What was found after the first cut, and after the last; whether the history then ended right. What is found in the end is the map of before, or the one
+    // after the call that was cut.
+    fn of(end: usize, first: Found, last: Found, right: bool) -> Self {
+        if last.map < first.map {
+            Outcome::Wrong
+        } else if first.call < last.call || end <= last.call {
+            Outcome::Uncut
+        } else if !right {
+            Outcome::Wrong
+        } else if last.map == last.call {
+            Outcome::Before
+        } else {
+            Outcome::After
+        }
+    }
+}
 
-const AFTER: usize = 2;
+// How many went so.
+#[derive(Default, Drop)]
+struct Outcomes {
+    before: u64,
+    after: u64,
+    wrong: u64,
+}
 
-const WRONG: usize = 3;
+impl Outcomes {
+    fn add(&mut self, outcome: Outcome) {
+        let n = match outcome {
+            Outcome::Uncut => return,
+            Outcome::Before => &mut self.before,
+            Outcome::After => &mut self.after,
+            Outcome::Wrong => &mut self.wrong,
+        };
+        *n = n.saturating_add(1);
+    }
+}
+
+impl fmt::Display for Outcomes {
+    fn fmt<W: fmt::Write>(&self, f: &mut fmt::Formatter<W>) -> fmt::Result {
+        let Outcomes {
+            before,
+            after,
+            wrong,
+        } = self;
+        write!(
+            f,
+            "as before the call {before}, as after it {after}, wrong {wrong}"
+        )
+    }
+}
 
 // ---- one cut, or two
 
-// The history is run from there to its end, with power that stays. Whether the map is right, also after a start.
-fn ends_right(
-    script: &[u8],
-    from: usize,
-    n: usize,
-    chip: &mut [u8],
-    work: &mut [u32],
-    noise: &[u8; 4096],
-) -> bool
-    requires { from ≤ length script.now }
-{
-    let found = cutting::survive(script, from, n, chip, work, noise, LONG);
-    cutting::ended(script, chip, work, noise) & (found.map == script.len())
+// A history, what it is run on, and the noises of the first cut and of the second.
+#[derive(Drop)]
+struct Trial<'a> {
+    history: &'a [Step<'a>],
+    bench: Bench,
+    first: [u8; 4096],
+    second: [u8; 4096],
 }
 
-// What was found after the first cut, and after the last; whether the history then ended right. What is found in the end is the map of before, or the one after
-// the call that was cut.
-fn outcome(end: usize, first: Found, last: Found, right: bool) -> usize
-    ensures { result < 4 }
-{
-    if (first.map == 0) | (last.map < first.map) {
-        return WRONG;
+impl<'a> Trial<'a> {
+    fn new(alloc: Global, history: &'a [Step<'a>]) -> Result<Self, AllocError> {
+        Ok(Trial {
+            history,
+            bench: Bench {
+                chip: vec![in alloc; 255u8; 16384]?,
+                work: vec![in alloc; 0u32; 80]?,
+                fuse: LONG,
+                noise: [0u8; 4096],
+            },
+            first: [0u8; 4096],
+            second: [0u8; 4096],
+        })
     }
-    if (first.call < last.call) | (end <= last.call) {
-        return UNCUT;
-    }
-    if !right {
-        return WRONG;
-    }
-    if last.map == last.call { BEFORE } else { AFTER }
-}
 
-// The history on a blank chip, with the power going at operation t.
-fn cut_once(script: &[u8], noise: &[u8; 4096], t: u64) -> usize
-    ensures { result < 4 }
-{
-    let mut chip = [255u8; 16384];
-    let mut work = [0u32; 80];
-    let found = cutting::survive(script, 0, 0, &mut chip, &mut work, noise, t);
-    let n = found.map;
-    let right = ends_right(script, n, n, &mut chip, &mut work, noise);
-    outcome(script.len(), found, found, right)
-}
+    // The history is run from there to its end, with power that stays. Whether the map is right, also after a start.
+    fn ends_right(&mut self, from: usize, n: usize) -> bool {
+        let found = cutting::survive(self.history, from, n, &mut self.bench, LONG);
+        let ended = cutting::ended(self.history, &mut self.bench);
+        ended && found.is_some_and(|found| found.map == self.history.len())
+    }
 
-// The same; after a start the call is made again, with the power going at its operation s.
-fn cut_twice(script: &[u8], first: &[u8; 4096], second: &[u8; 4096], t: u64, s: u64) -> usize
-    ensures { result < 4 }
-{
-    let mut chip = [255u8; 16384];
-    let mut work = [0u32; 80];
-    let found = cutting::survive(script, 0, 0, &mut chip, &mut work, first, t);
-    let i = found.call;
-    let again = cutting::survive(script, i, found.map, &mut chip, &mut work, second, s);
-    let right = ends_right(script, i, again.map, &mut chip, &mut work, second);
-    outcome(script.len(), found, again, right)
+    // The history on a blank chip, with the power going at operation t.
+    fn cut_first(&mut self, t: u64) -> Option<Found> {
+        self.bench.chip.fill(255);
+        self.bench.work.fill(0);
+        self.bench.noise = self.first;
+        cutting::survive(self.history, 0, 0, &mut self.bench, t)
+    }
+
+    // How the history goes so.
+    fn cut_once(&mut self, t: u64) -> Outcome {
+        let Some(found) = self.cut_first(t) else {
+            return Outcome::Wrong;
+        };
+        let right = self.ends_right(found.map, found.map);
+        Outcome::of(self.history.len(), found, found, right)
+    }
+
+    // The same; after a start the call is made again, with the power going at its operation s.
+    fn cut_twice(&mut self, t: u64, s: u64) -> Outcome {
+        let Some(first) = self.cut_first(t) else {
+            return Outcome::Wrong;
+        };
+        self.bench.noise = self.second;
+        let Some(last) = cutting::survive(self.history, first.call, first.map, &mut self.bench, s)
+        else {
+            return Outcome::Wrong;
+        };
+        let right = self.ends_right(first.call, last.map);
+        Outcome::of(self.history.len(), first, last, right)
+    }
+
+    // Every first cut; or, after each, every second one.
+    fn every_cut(&mut self, second: Option<Noise>) -> Outcomes {
+        let mut outcomes = Outcomes::default();
+        if second.is_none() {
+            every(|t| self.cut_once(t), &mut outcomes);
+            return outcomes;
+        }
+        for t in 1..300 {
+            every(|s| self.cut_twice(t, s), &mut outcomes);
+        }
+        outcomes
+    }
 }
 
 // ---- every cut
 
-// The power goes at operation v where t is 0; and else at operation t, and at operation v of the call made again.
-fn cut(script: &[u8], first: &[u8; 4096], second: &[u8; 4096], t: u64, v: u64) -> usize
-    ensures { result < 4 }
-{
-    if t == 0 {
-        cut_once(script, first, v)
-    } else {
-        cut_twice(script, first, second, t, v)
-    }
-}
-
-// One more with this outcome.
-fn add(tally: &mut [u64; 4], o: usize)
-    requires { o < 4 }
-{
-    tally[o] = tally[o] % 1000000 + 1;
-}
-
 // The power goes at each operation in turn, until nothing is cut. A call that is always cut is wrong.
-fn every_cut(script: &[u8], first: &[u8; 4096], second: &[u8; 4096], t: u64, tally: &mut [u64; 4]) {
-    let mut v: u64 = 1;
-    while v < LONG {
-        let o = cut(script, first, second, t, v);
-        if o == UNCUT {
+fn every<F: FnMut(u64) -> Outcome>(mut cut: F, outcomes: &mut Outcomes)
+    requires { F.IsAlwaysCallable cut }
+{
+    for t in 1..LONG {
+        let outcome = cut(t);
+        if matches!(outcome, Outcome::Uncut) {
             return;
         }
-        add(tally, o);
-        v += 1;
+        outcomes.add(outcome);
     }
-    add(tally, WRONG);
+    outcomes.add(Outcome::Wrong);
 }
 
-// The same for each t of a range.
-fn every_first(
-    script: &[u8],
-    first: &[u8; 4096],
-    second: &[u8; 4096],
-    from: u64,
-    to: u64,
-    tally: &mut [u64; 4],
-) {
-    let mut t = from;
-    while t < to {
-        every_cut(script, first, second, t, tally);
-        t += 1;
-    }
-}
-
-// ---- what is printed
-
-const NOISES: usize = 5;
-
-// A noise by its name.
-fn print_noise(rt: &impl Print, before: &[u8], which: usize) -> io::Result<()> {
-    trying::text(rt, before)?;
-    trying::text(rt, trying::word(b"zeros ones mixed forged kept", which))
-}
-
-// How many cuts went so.
-fn print_tally(rt: &impl Print, tally: &[u64; 4]) -> io::Result<()> {
-    trying::entry(rt, b": as before the call ", tally[BEFORE])?;
-    trying::entry(rt, b", as after it ", tally[AFTER])?;
-    trying::entry(rt, b", wrong ", tally[WRONG])?;
-    trying::text(rt, b"\n")
-}
-
-// Every cut, with these noises.
-fn try_cuts(
+// Every cut with one noise; or every second cut with the second noise after every first one.
+fn try_noises(
     rt: &impl Print,
-    script: &[u8],
-    which: usize,
-    then: usize,
-    from: u64,
-    to: u64,
+    trial: &mut Trial,
+    first: Noise,
+    second: Option<Noise>,
 ) -> io::Result<()> {
-    let mut first = [0u8; 4096];
-    calls::make_noise(which, &mut first);
-    let mut second = [0u8; 4096];
-    calls::make_noise(then, &mut second);
-    let mut tally = [0u64; 4];
-    every_first(script, &first, &second, from, to, &mut tally);
-    print_tally(rt, &tally)
-}
-
-// Every cut with one noise; or, where again isn't 0, every second cut with noise again - 1 after every first one.
-fn try_noises(rt: &impl Print, script: &[u8], which: usize, again: usize) -> io::Result<()> {
-    print_noise(rt, b"noise ", which)?;
-    if again == 0 {
-        return try_cuts(rt, script, which, which, 0, 1);
+    print!(rt; "noise {first}")?;
+    if let Some(second) = second {
+        print!(rt; ", then {second}")?;
     }
-    print_noise(rt, b", then ", again - 1)?;
-    try_cuts(rt, script, which, again - 1, 1, 300)
+    trial.first = calls::noise(first);
+    trial.second = calls::noise(second.unwrap_or(first));
+    println!(rt; ": {}", trial.every_cut(second))
 }
 
-// Every noise; then every two noises.
-fn try_all(rt: &impl Print, script: &[u8]) -> io::Result<()> {
-    let mut i = 0;
-    while i < NOISES * (NOISES + 1) {
-        try_noises(rt, script, i % NOISES, i / NOISES)?;
-        i += 1;
+// Each noise, alone or with that second one.
+fn try_each(rt: &impl Print, trial: &mut Trial, second: Option<Noise>) -> io::Result<()> {
+    for first in NOISES {
+        try_noises(rt, trial, first, second)?;
     }
     Ok(())
 }
 
 fn main(rt: HostRuntime) -> io::Result<()> {
     let script = trying::input(&rt)?;
-    try_all(&rt, &script)
+    let history = cutting::history(rt.alloc(), &script)?;
+    let mut trial = Trial::new(rt.alloc(), &history)?;
+    try_each(&rt, &mut trial, None)?;
+    for second in NOISES {
+        try_each(&rt, &mut trial, Some(second))?;
+    }
+    Ok(())
 }
