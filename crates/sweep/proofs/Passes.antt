@@ -28,7 +28,6 @@ use Rattle.std.specs.Prelude.{Option, Some, None, Result, Ok, Err}
 use Rattle.chip.specs.declared.Halt.{Halt}
 use Rattle.chip.specs.declared.Halt.TheVariants.{Dark, Dirty}
 use Rattle.clean.specs.Steps.{LiveAt, JudgesBy, Judges, Carried, Broken, CarriesBy, Carries}
-use Rattle.sweep.specs.Ends.{OneMore}
 use Rattle.sweep.specs.Steps.{Went, PassesBy, Passes}
 
 -- the page of log place p, of which the chip's block x is
@@ -40,14 +39,6 @@ log_page B h p x e =
     ∙ ap (λ (y : ℕ). 16 * y + (FIRST + (p - FIRST) % U)) e
     ∙ sym (page_at_lem B (h + (2 + (p - FIRST) / U)) (FIRST + (p - FIRST) % U) (omega arith))
     ∙ ap (page_of B) z
-
--- a carry uses one page of the head
-pub carried_one : (x k j : ℕ) (pg noise c : List ℕ) (f : ℕ) (ix c' : List ℕ) (f' : ℕ) (ix' : List ℕ) (r : Result ℕ Halt) → Carries x k j pg noise c f ix c' f' ix' r → OneMore k r
-carried_one x k j pg noise c f ix c' f' ix' r a = go r a.right
-  where
-    go : (r : Result ℕ Halt) → CarriesBy x k j pg c f ix c' f' ix' a.did.ops r → OneMore k r
-    go (Ok m) z = omega (arith, z.one_more)
-    go (Err e) z = tt
 
 -- q is the page of log place p, in the zone, where the head has x pages
 module _ (B : ℕ) (big : 4 ≤ B) (noise c ix : List ℕ) (size : length c ≡ 4096 * B) (f n h x p q : ℕ) (free : x < 15) (zone : p < x + (B - 2))

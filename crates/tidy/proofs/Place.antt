@@ -1,7 +1,7 @@
 -- A PLACE FOR THE RECORD: a sweep, and where the head is full an opening and the rest of the sweep. Assumes nothing.
 use mathlib.Core.Path.{◌≡◌, sym, ap, ◌∙◌, subst}
 use mathlib.Core.List.{List, ◌++◌}
-use Prim.Native.Nat.{ℕ, ◌+◌, ◌-◌, ◌*◌, ◌≤◌, ◌<◌}
+use Prim.Native.Nat.{ℕ, ◌+◌, ◌-◌, ◌*◌, ◌≤◌}
 use native.Mathlib.Omega.{arith}
 use lib.ListN.{take}
 use Rattle.std.specs.Prelude.{Result, Ok, Err, IfOk}
@@ -14,35 +14,10 @@ use Rattle.ring_log.specs.Ring.{chip_of, map_of, Ready}
 use Rattle.ring_log.specs.Call.{resting, Cursor, cursor, begin, Goes}
 use Rattle.ring_log.proofs.RingLaws.{next_le}
 use Rattle.ring_log.proofs.Walk.{goes_then, goes_ends}
-use Rattle.sweep.specs.Ends.{SweptWithin}
 use Rattle.sweep.specs.Steps.{Sweeps}
 use Rattle.clean.specs.declared.Place.{Place}
-use Rattle.opening.specs.Ends.{RoomWithinBy, RoomWithin}
 use Rattle.opening.specs.Steps.{Rooms}
 use Rattle.tidy.specs.Steps.{PlacesBy, Places}
-
--- the ranges of one stretch after another
-pub within_then : (A B p l q m : ℕ) (r : Result Place Halt) → A ≡ B → m ≤ l → (p < 4294967296 → q < 4294967296) → RoomWithin A q m r → RoomWithin B p l r
-within_then A B p l q m r e a f w = record { says = go r w.says }
-  where
-    go : (r : Result Place Halt) → RoomWithinBy A q m r → RoomWithinBy B p l r
-    go (Ok x) w = (omega (arith, e, w.0), w.1, omega (arith, w.2), λ z. w.3 (f z), w.4 ∙ e)
-    go (Err y) w = tt
-
--- and of a sweep, which leaves the head alone
-pub within_swept : (head : Head) (x t p l : ℕ) (r : Result Place Halt) → head.block < head.blocks → x < 15 → t < 15 → IfOk r (λ (w : Place). w.head ≡ head) → SweptWithin x t p l r
-    → RoomWithin head.blocks p l r
-within_swept head x t p l r i a b e w = record { says = go r e w }
-  where
-    go : (r : Result Place Halt) → IfOk r (λ (w : Place). w.head ≡ head) → SweptWithin x t p l r → RoomWithinBy head.blocks p l r
-    go (Ok v) e w = (
-      omega (arith, ap (λ (z : Head). z.block) e),
-      omega (arith, w.0 14 (omega arith) (omega arith)),
-      w.1,
-      w.2,
-      ap (λ (z : Head). z.blocks) e,
-    )
-    go (Err y) e w = tt
 
 -- a sweep alone, where it leaves a place
 module _ (B n : ℕ) (head : Head) (x p l t : ℕ) (noise c : List ℕ) (f : ℕ) (ix c' : List ℕ) (f' : ℕ) (ix' : List ℕ) where

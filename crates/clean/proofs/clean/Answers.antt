@@ -2,26 +2,22 @@ use mathlib.Core.Path.{refl, sym, ◌∙◌}
 use Prim.Native.Nat.{◌+◌}
 use native.Mathlib.Omega.{arith}
 use Rattle.std.proofs.lemmas.Result.{err_from_is_err_and}
-use Rattle.clean.proofs.Runs.{same_none, same_then, same_noise, sane_moved}
+use Rattle.clean.proofs.Runs.{same_none, same_then, same_noise}
 use Rattle.clean.proofs.Turns.{turns_unlisted, turns_none, turns_next, turns_halted, turns_all}
-use borrow.Author.Rules.{rules}
 use Rattle.clean.proofs.clean.Goals as goal
 
-pub returns-then-is_unlisted : goal.returns-then-is_unlisted
-returns-then-is_unlisted c = record { same = same_none _; right = turns_unlisted _ c.requires.some_blocks _ _ _ c.requires.size _ _ _ _ c.oldest.ensures.0 (sym c.is_unlisted.ensures ∙ c.if-is_unlisted.true); few = search rules }
+pub returns-then-is_unlisted-clause-right : goal.returns-then-is_unlisted-clause-right
+returns-then-is_unlisted-clause-right c = turns_unlisted _ c.requires.some_blocks _ _ _ c.requires.size _ _ _ _ c.oldest.ensures.0 (sym c.is_unlisted.ensures ∙ c.if-is_unlisted.true)
 
 pub loop-i-init : goal.loop-i-init
 loop-i-init c = record { few = omega arith; same = same_none _; entries = refl; turns = turns_none _ _ _ _ _ _ _ }
 
-pub look_at-requires : goal.look_at-requires
-look_at-requires c = record { sane = sane_moved _ _ _ _ _ c.loop-i.invariant.same c.requires c.requires.inside; places = search rules }
-
-pub returns-in_err-k : goal.returns-in_err-k
-returns-in_err-k c =
+pub returns-in_err-k-clause-right : goal.returns-in_err-k-clause-right
+returns-in_err-k-clause-right c =
     let p = err_from_is_err_and c.from_residual.result c.from_residual.ensures.1 in
     let v = c.loop-i.invariant in
     let w = turns_next _ _ _ _ _ _ _ c.loop-i.i _ _ _ _ v.turns _ _ _ _ _ _ v.entries (same_noise v.same) c.in_err-k.ensures.right in
-    rw (p.1, p.2) (record { same = same_then v.same c.look_at.ensures.same; right = turns_halted _ _ _ _ _ _ _ _ (c.loop-i.i + 1) _ _ (omega arith) _ _ _ _ w; few = search rules })
+    rw (p.1, p.2) (turns_halted _ _ _ _ _ _ _ _ (c.loop-i.i + 1) _ _ (omega arith) _ _ _ _ w)
 
 pub loop-i-preserved : goal.loop-i-preserved
 loop-i-preserved c =
@@ -33,5 +29,5 @@ loop-i-preserved c =
       turns = turns_next _ _ _ _ _ _ _ c.loop-i.i _ _ _ _ v.turns _ _ _ _ _ _ v.entries (same_noise v.same) c.in_ok-k.ensures.right;
     }
 
-pub returns : goal.returns
-returns c = record { same = c.loop-i.invariant.same; right = turns_all _ _ _ _ _ _ _ 0 c.loop-i.i _ _ (omega arith) _ _ _ _ c.loop-i.invariant.turns; few = c.loop-i.invariant.few }
+pub returns-clause-right : goal.returns-clause-right
+returns-clause-right c = turns_all _ _ _ _ _ _ _ 0 c.loop-i.i _ _ (omega arith) _ _ _ _ c.loop-i.invariant.turns
