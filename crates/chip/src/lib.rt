@@ -99,7 +99,7 @@ fn bytes_at<const N: usize>(chip: &[u8], at: usize) -> [u8; N]
     bytes
 }
 
-// The bytes of page p.
+// The bytes of page p. (That it lies within the chip, each of these asks: a chip's size is known when it is lent, and no type can have it.)
 #[tactic(auto, unfolding(crate::specs::Chip::page_at))]
 pub fn page_at(chip: &[u8], p: usize) -> Page
     requires { 256 * p + 256 ≤ length chip.now }
@@ -135,7 +135,8 @@ pub fn look_at(chip: &[u8], p: usize) -> Look
     page::look_at(&page)
 }
 
-// The byte y laid over x: bits that are 1 in y become 1, or those that are 0 there become 0.
+// The byte y laid over x: bits that are 1 in y become 1, or those that are 0 there become 0. (`set` is a bool, and no closure in its place: what a write
+// leaves is said by `turned` of specs/Chip.antt, and a closure would have to promise it first.)
 fn laid(x: u8, y: u8, set: bool) -> u8
     ensures { result ≡ turned set x y }
 {

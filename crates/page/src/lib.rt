@@ -136,6 +136,7 @@ fn counts(high: u8, low: u8, n: u32) -> bool
 }
 
 // The same of a page.
+#[tactic(auto, using(crate::proofs::Forms::count_test))]
 fn is_counted(page: &Page) -> bool
     ensures { result ≡ counted page.now }
 {
@@ -189,6 +190,7 @@ fn spoilt_at(page: &Page) -> usize
 }
 
 // What a page is.
+#[tactic(auto, using(crate::proofs::Lowest::look_blank, crate::proofs::Lowest::look_sound, crate::proofs::Lowest::look_spoilt))]
 pub fn look_at(page: &Page) -> Look
     ensures { result ≡ look_of page.now }
 {

@@ -74,7 +74,7 @@ pub fn kind_of(page: &Page) -> Option<Kind>
     Some(if value { Kind::Value } else { Kind::Note })
 }
 
-// The key on a page, of which the beginning will do. A length that stands on a page is cut at what a page holds.
+// The key on a page, of which the beginning will do: so it is a slice. A length that stands on a page is cut at what a page holds.
 pub fn key_on(page: &[u8]) -> &[u8]
     requires { 32 ≤ length page.now }
     ensures { result.now ≡ key_on page.now }
@@ -123,7 +123,9 @@ fn page_of(mark: Mark, key: &[u8], value: &[u8]) -> Page
     page
 }
 
-// The page of a record: of a note of the key's deletion, or of its value.
+// The page of a record: of a note of the key's deletion, or of its value. (`note` is a bool as in `record_of` of specs/Record.antt, of which the laws of the
+// log and the theorems of a change speak.)
+#[tactic(auto, using(crate::proofs::Laying::page_note, crate::proofs::Laying::page_value))]
 pub fn encode(note: bool, key: &[u8], value: &[u8]) -> Page
     requires { (length key.now ≤ 16) × (length value.now ≤ most_value) }
     ensures { result ≡ record_page (record_of note key.now value.now) }
@@ -147,6 +149,7 @@ pub fn anew(page: &Page) -> Page
 }
 
 // The page of a seal.
+#[tactic(auto, unfolding(crate::specs::Record::seal_page))]
 pub fn seal() -> Page
     ensures { result ≡ seal_page }
 {
