@@ -7,14 +7,15 @@ use mathlib.Core.Bool.{Bool, true, false, not, ◌&&◌}
 use Prim.Native.Nat.{ℕ, ◌+◌, ◌-◌, ◌*◌, ◌/◌, ◌≤◌, ◌<◌}
 use native.Mathlib.Omega.{arith}
 use lib.Dec.{leb}
-use lib.ListN.{length, take, drop, set, get_or, length-drop}
+use lib.ListN.{length, take, drop, get_or, length-drop}
 use lib.Seq.{take_all}
+use Rattle.std.specs.Prelude.{Result, Ok, Err, IsErrAnd}
 use borrow.Rule.Slice.PartMut.{mid_of, put_mid}
 use Rattle.chip.specs.Play.{Op, erases, writes, Did}
 use Rattle.chip.proofs.Plays.{did_none, did_more, did_length}
 use Rattle.record.specs.Record.{most_value, Rec, record_of}
 use Rattle.ring_log.specs.Map.{Map, lookup, alter}
-use Rattle.ring_log.specs.Ring.{chip_of, head, Ring, map_of, room, most_blocks, Ready}
+use Rattle.ring_log.specs.Ring.{chip_of, head, Ring, map_of, room, Ready}
 use Rattle.ring_log.specs.Call.{resting, begin, Trace, After}
 use Rattle.ring_log.specs.Timely.{Timely}
 use Rattle.ring_log.proofs.Timely.{timely_more}
@@ -27,14 +28,16 @@ use Rattle.ring_log.proofs.CallCost.{Rest, call_short}
 use Rattle.lent.specs.Area.{blocks_of, Checked, map_in, mark, lent_of, Kept, Store}
 use Rattle.lent.specs.Tested.{lent_number, key_number, due, Tested}
 use Rattle.append.specs.Steps.{ChangeWithin, ChangeKept, denial_in, Alters}
-use Rattle.change.specs.Steps.{put_number, Words, Settles, Runs}
-use Rattle.change.specs.Changed.{Came, Changes, Ended}
-use Rattle.lent.specs.declared.Answer.{Answer}
-use Rattle.lent.specs.declared.Answer.TheVariants.{Done, Refused}
-use Rattle.append.specs.declared.Change.{Change}
-use Rattle.append.specs.declared.Change.TheVariants.{Made, Denied, Lost, Broken}
+use Rattle.change.specs.Steps.{put_number, Settles, Runs}
+use Rattle.change.specs.Changed.{Came, Changes, Ended, PutEnds, DeleteEnds}
+use Rattle.lent.specs.Ended.{Answer, Done, Refused, answer_of, refusal_number}
+use Rattle.lent.specs.declared.Refusal.{Refusal}
+use Rattle.append.specs.declared.Made.{Made}
+use Rattle.append.specs.declared.Unmade.{Unmade}
+use Rattle.append.specs.declared.Unmade.TheVariants.{Denied, Halted}
+use Rattle.chip.specs.declared.Halt.TheVariants.{Dark, Dirty}
 use Rattle.lent.proofs.Area.{marked, lent_same, lent_before, downed, downed_0, downed_1, downed_2, downed_3, downed_4, downed_16, back_long, back_index}
-use Rattle.lent.proofs.Numbers.{lent_due, keyed_only, refuse_due, due_refused}
+use Rattle.lent.proofs.Numbers.{refusal_some, lent_due, keyed_only, refuse_due, due_refused}
 use Rattle.change.proofs.Numbers.{keyed_due}
 use Rattle.lent.proofs.Held.{map_rows}
 use Rattle.append.proofs.Appends.{map_sorted, ready_count, alter_fits}
@@ -158,47 +161,47 @@ module _ (c w : List ℕ) (ok : Checked c w) (note : Bool) (key value noise : Li
     wider d = did_more (omega arith) (omega (arith, ok.sized.some_blocks)) d
 
     -- made: the words are put down
-    pub run_made : (h y n p h₂ y₂ n₂ p₂ : ℕ) → Alters (blocks_of c) (get_or w 1 0) (get_or w 2 0) (get_or w 4 0) (get_or w 3 0) note key value noise c f (mid_of 16 k w) c' f' ix' (Made h y n p)
-        → h₂ ≡ h → y₂ ≡ y → n₂ ≡ n → p₂ ≡ p → n ≤ length ix' → (w' : List ℕ) → w' ≡ downed (put_mid 16 k w ix') h₂ y₂ n₂ p₂ → Runs note key value noise c f w c' f' w' (Done 0)
+    run_made : (m : Made) → Alters (blocks_of c) (get_or w 1 0) (get_or w 2 0) (get_or w 4 0) (get_or w 3 0) note key value noise c f (mid_of 16 k w) c' f' ix' (Ok m)
+        → m.keys ≤ length ix' → (w' : List ℕ) → w' ≡ downed (put_mid 16 k w ix') m.head.block m.next m.keys m.passed → Runs note key value noise c f w c' f' w' (Done 0)
     unfolding wider did_more
-    run_made h y n p h₂ y₂ n₂ p₂ a eh ey en ep m w' q =
+    run_made m a l w' q =
         record {
           did = wider a.did;
           refused = tt;
           right = λ kept lit on.
               let r = a.right lit (ready_of kept lit on) in
-              let came = came_whole c ok.sized.some_blocks note key value noise f c' f' (get_or w 1 0) (get_or w 2 0) _ (ready_of kept lit on) r.3 a.did (get_or w 4 0) p r.4 in
+              let came = came_whole c ok.sized.some_blocks note key value noise f c' f' (get_or w 1 0) (get_or w 2 0) _ (ready_of kept lit on) r.3 a.did (get_or w 4 0) m.passed r.4 in
               let b : blocks_of c ≡ blocks_of c' = same_blocks c ok.sized.some_blocks note key value noise f c' f' (did_length a.did) in
               let v : List ℕ = put_mid 16 k w ix' in
-              let one : get_or w' 1 0 ≡ h = ap (λ (l : List ℕ). get_or l 1 0) q ∙ downed_1 v h₂ y₂ n₂ p₂ (back_long w ix' k long) ∙ eh in
-              let two : get_or w' 2 0 ≡ y = ap (λ (l : List ℕ). get_or l 2 0) q ∙ downed_2 v h₂ y₂ n₂ p₂ (back_long w ix' k long) ∙ ey in
-              let three : get_or w' 3 0 ≡ n = ap (λ (l : List ℕ). get_or l 3 0) q ∙ downed_3 v h₂ y₂ n₂ p₂ (back_long w ix' k long) ∙ en in
-              let rows : take (get_or w' 3 0) (drop 16 w') ≡ take n ix' =
-              ap (λ (i : ℕ). take i (drop 16 w')) three ∙ ap (λ (l : List ℕ). take n (drop 16 l)) q ∙ ap (take n) (downed_16 v h₂ y₂ n₂ p₂) ∙ back_index w ix' k long n m in
+              let one : get_or w' 1 0 ≡ m.head.block = ap (λ (l : List ℕ). get_or l 1 0) q ∙ downed_1 v m.head.block m.next m.keys m.passed (back_long w ix' k long) in
+              let two : get_or w' 2 0 ≡ m.next = ap (λ (l : List ℕ). get_or l 2 0) q ∙ downed_2 v m.head.block m.next m.keys m.passed (back_long w ix' k long) in
+              let three : get_or w' 3 0 ≡ m.keys = ap (λ (l : List ℕ). get_or l 3 0) q ∙ downed_3 v m.head.block m.next m.keys m.passed (back_long w ix' k long) in
+              let rows : take (get_or w' 3 0) (drop 16 w') ≡ take m.keys ix' =
+              ap (λ (i : ℕ). take i (drop 16 w')) three ∙ ap (λ (l : List ℕ). take m.keys (drop 16 l)) q ∙ ap (take m.keys) (downed_16 v m.head.block m.next m.keys m.passed) ∙ back_index w ix' k long m.keys l in
               let ready : Ready (blocks_of c) (chip_of c') (get_or w' 1 0) (get_or w' 2 0) (take (get_or w' 3 0) (drop 16 w')) =
               subst (λ (i : ℕ). Ready (blocks_of c) (chip_of c') i (get_or w' 2 0) (take (get_or w' 3 0) (drop 16 w'))) (sym one)
-              (subst (λ (i : ℕ). Ready (blocks_of c) (chip_of c') h i (take (get_or w' 3 0) (drop 16 w'))) (sym two)
-              (subst (Ready (blocks_of c) (chip_of c') h y) (sym rows) r.1)) in
+              (subst (λ (i : ℕ). Ready (blocks_of c) (chip_of c') m.head.block i (take (get_or w' 3 0) (drop 16 w'))) (sym two)
+              (subst (Ready (blocks_of c) (chip_of c') m.head.block m.next) (sym rows) r.1)) in
               subst (λ (s : Says (Map (List ℕ))). Changes (record_of note key value) c f w c' f' w' a.did.ops s (Done 0)) (answer_done r.3)
               (record {
                 ends =
                     inl (
                       refl,
                       r.0,
-                      ap (λ (l : List ℕ). get_or l 0 0) q ∙ downed_0 v h₂ y₂ n₂ p₂ ∙ lent_before 16 k 0 w ix' (omega arith) long ∙ on,
+                      ap (λ (l : List ℕ). get_or l 0 0) q ∙ downed_0 v m.head.block m.next m.keys m.passed ∙ lent_before 16 k 0 w ix' (omega arith) long ∙ on,
                       record {
                         few = subst (λ (i : ℕ). get_or w' 3 0 ≤ room i) b (omega (arith, three, r.2));
                         ready = subst (λ (i : ℕ). Ready i (chip_of c') (get_or w' 1 0) (get_or w' 2 0) (take (get_or w' 3 0) (drop 16 w'))) b ready;
                       },
                       subst (λ (i : ℕ). Came true (record_of note key value) (get_or w 4 0) i c c' a.did.ops (alter key (record_of note key value).what (map_in c)))
-                          (sym (ap (λ (l : List ℕ). get_or l 4 0) q ∙ downed_4 v h₂ y₂ n₂ p₂ (back_long w ix' k long) ∙ ep)) came,
+                          (sym (ap (λ (l : List ℕ). get_or l 4 0) q ∙ downed_4 v m.head.block m.next m.keys m.passed (back_long w ix' k long))) came,
                     );
               });
         }
 
     -- denied: nothing happened
-    pub run_denied : (n : ℕ) → Alters (blocks_of c) (get_or w 1 0) (get_or w 2 0) (get_or w 4 0) (get_or w 3 0) note key value noise c f (mid_of 16 k w) c' f' ix' (Denied n)
-        → c' ≡ c → f' ≡ f → ix' ≡ mid_of 16 k w → (w' : List ℕ) → w' ≡ put_mid 16 k w ix' → Runs note key value noise c f w c' f' w' (Refused n)
+    run_denied : (e : Refusal) → Alters (blocks_of c) (get_or w 1 0) (get_or w 2 0) (get_or w 4 0) (get_or w 3 0) note key value noise c f (mid_of 16 k w) c' f' ix' (Err (Denied e))
+        → c' ≡ c → f' ≡ f → ix' ≡ mid_of 16 k w → (w' : List ℕ) → w' ≡ put_mid 16 k w ix' → Runs note key value noise c f w c' f' w' (Refused (refusal_number e))
     unfolding wider did_more
     run_denied n a ec ef ei w' q =
         record {
@@ -206,13 +209,13 @@ module _ (c w : List ℕ) (ok : Checked c w) (note : Bool) (key value noise : Li
           refused = λ _ _. (ec, ef, q ∙ lent_same 16 k w ix' ei);
           right = λ kept lit on.
               let r = a.right lit (ready_of kept lit on) in
-              let e : answer ≡ refused n = ap (λ (i : ℕ). due i (done (alter key (record_of note key value).what (map_in c)))) (sym r.0) ∙ due_refused n _ r.1 in
-              subst (λ (s : Says (Map (List ℕ))). Changes (record_of note key value) c f w c' f' w' a.did.ops s (Refused n)) (sym e)
+              let e : answer ≡ refused (refusal_number n) = ap (λ (i : ℕ). due i (done (alter key (record_of note key value).what (map_in c)))) (sym r.0) ∙ due_refused (refusal_number n) _ r.1 in
+              subst (λ (s : Says (Map (List ℕ))). Changes (record_of note key value) c f w c' f' w' a.did.ops s (Refused (refusal_number n))) (sym e)
               (record { ends = (refl, ec, q ∙ lent_same 16 k w ix' ei, r.2, r.3) });
         }
 
     -- the power went
-    pub run_lost : Alters (blocks_of c) (get_or w 1 0) (get_or w 2 0) (get_or w 4 0) (get_or w 3 0) note key value noise c f (mid_of 16 k w) c' f' ix' Lost
+    run_lost : Alters (blocks_of c) (get_or w 1 0) (get_or w 2 0) (get_or w 4 0) (get_or w 3 0) note key value noise c f (mid_of 16 k w) c' f' ix' (Err (Halted Dark))
         → (w' : List ℕ) → mark w' ≡ 2 → Runs note key value noise c f w c' f' w' (Refused 7)
     unfolding wider did_more
     run_lost a w' z =
@@ -237,58 +240,35 @@ module _ (c w : List ℕ) (ok : Checked c w) (note : Bool) (key value noise : Li
         }
 
     -- a page that was not blank: never
-    pub run_broken : Alters (blocks_of c) (get_or w 1 0) (get_or w 2 0) (get_or w 4 0) (get_or w 3 0) note key value noise c f (mid_of 16 k w) c' f' ix' Broken
+    run_broken : Alters (blocks_of c) (get_or w 1 0) (get_or w 2 0) (get_or w 4 0) (get_or w 3 0) note key value noise c f (mid_of 16 k w) c' f' ix' (Err (Halted Dirty))
         → (w' : List ℕ) → Runs note key value noise c f w c' f' w' (Refused 8)
     run_broken a w' = record { did = wider a.did; refused = λ u v. absurd (v refl); right = λ kept lit on. absurd (a.right lit (ready_of kept lit on)) }
 
-    -- whichever it was
-    pub run_settled : (ch : Change) → Alters (blocks_of c) (get_or w 1 0) (get_or w 2 0) (get_or w 4 0) (get_or w 3 0) note key value noise c f (mid_of 16 k w) c' f' ix' ch
+    settled : (ch : Result Made Unmade) → Alters (blocks_of c) (get_or w 1 0) (get_or w 2 0) (get_or w 4 0) (get_or w 3 0) note key value noise c f (mid_of 16 k w) c' f' ix' ch
         → ChangeWithin (blocks_of c) (get_or w 3 0) ch → ChangeKept c f (mid_of 16 k w) c' f' ix' ch → get_or w 3 0 + 1 ≤ length ix'
         → (w' : List ℕ) (r : Answer) → Settles (put_mid 16 k w ix') w' ch r → Runs note key value noise c f w c' f' w' r
-    run_settled (Made h y n p) a v u m w' r s =
-        subst (Runs note key value noise c f w c' f' w') (sym s.says.0) (run_made h y n p h y n p a refl refl refl refl (omega (arith, v.2)) w' s.says.1)
-    run_settled (Denied n) a v u m w' r s =
-        subst (Runs note key value noise c f w c' f' w') (sym s.says.0) (run_denied n a u.says.0 u.says.1 u.says.2 w' s.says.1)
-    run_settled Lost a v u m w' r s =
+    settled (Ok m) a v u l w' r s =
+        subst (Runs note key value noise c f w c' f' w') (sym s.says.0) (run_made m a (omega (arith, v.2)) w' s.says.1)
+    settled (Err (Denied e)) a v u l w' r s =
+        subst (Runs note key value noise c f w c' f' w') (sym s.says.0) (run_denied e a u.says.0 u.says.1 u.says.2 w' s.says.1)
+    settled (Err (Halted Dark)) a v u l w' r s =
         subst (Runs note key value noise c f w c' f' w') (sym s.says.0)
         (run_lost a w' (ap (λ (l : List ℕ). get_or l 0 0) s.says.1 ∙ marked (put_mid 16 k w ix') 2 (back_long w ix' k long)))
-    run_settled Broken a v u m w' r s = subst (Runs note key value noise c f w c' f' w') (sym s.says.0) (run_broken a w')
+    settled (Err (Halted Dirty)) a v u l w' r s = subst (Runs note key value noise c f w c' f' w') (sym s.says.0) (run_broken a w')
 
--- what `settle` leaves, by what the change was
-pub settles_made : (v w' : List ℕ) (ch : Change) (h y n p h₂ y₂ n₂ p₂ : ℕ) → ch ≡ Made h y n p → w' ≡ downed v h₂ y₂ n₂ p₂ → h₂ ≡ h → y₂ ≡ y → n₂ ≡ n → p₂ ≡ p
-    → Settles v w' ch (Done 0)
-settles_made v w' ch h y n p h₂ y₂ n₂ p₂ e q eh ey en ep =
-    subst (λ (x : Change). Settles v w' x (Done 0)) (sym e)
-    (record {
-      says = (
-        refl,
-        q ∙ ap (λ (i : ℕ). downed v i y₂ n₂ p₂) eh ∙ ap (λ (i : ℕ). downed v h i n₂ p₂) ey ∙ ap (λ (i : ℕ). downed v h y i p₂) en ∙ ap (downed v h y n) ep,
-      );
-    })
+    -- whichever it was
+    pub run_settled : (b : ℕ) → b ≡ blocks_of c → (ch : Result Made Unmade) → Alters b (get_or w 1 0) (get_or w 2 0) (get_or w 4 0) (get_or w 3 0) note key value noise c f (mid_of 16 k w) c' f' ix' ch
+        → ChangeWithin b (get_or w 3 0) ch → ChangeKept c f (mid_of 16 k w) c' f' ix' ch → get_or w 3 0 + 1 ≤ length ix'
+        → (w' : List ℕ) (r : Answer) → Settles (put_mid 16 k w ix') w' ch r → Runs note key value noise c f w c' f' w' r
+    run_settled b e ch a v =
+        settled ch
+        (subst (λ (i : ℕ). Alters i (get_or w 1 0) (get_or w 2 0) (get_or w 4 0) (get_or w 3 0) note key value noise c f (mid_of 16 k w) c' f' ix' ch) e a)
+        (subst (λ (i : ℕ). ChangeWithin i (get_or w 3 0) ch) e v)
 
-pub settles_denied : (v : List ℕ) (ch : Change) (k : ℕ) → ch ≡ Denied k → Settles v v ch (Refused k)
-settles_denied v ch k e = subst (λ (x : Change). Settles v v x (Refused k)) (sym e) (record { says = (refl, refl) })
-
-pub settles_lost : (v : List ℕ) (ch : Change) → ch ≡ Lost → Settles v (set v 0 2) ch (Refused 7)
-settles_lost v ch e = subst (λ (x : Change). Settles v (set v 0 2) x (Refused 7)) (sym e) (record { says = (refl, refl) })
-
-pub settles_broken : (v : List ℕ) (ch : Change) → ch ≡ Broken → Settles v v ch (Refused 8)
-settles_broken v ch e = subst (λ (x : Change). Settles v v x (Refused 8)) (sym e) (record { says = (refl, refl) })
-
--- the numbers of a change are words
-pub words_of : (B n : ℕ) (ch : Change) → B ≤ most_blocks → n ≤ room B → ChangeWithin B n ch → Words ch
-words_of B n (Made h x m p) b l v = (omega (arith, v.0), omega (arith, v.1), omega (arith, v.2), v.3)
-words_of B n (Denied k) b l v = tt
-words_of B n Lost b l v = tt
-words_of B n Broken b l v = tt
-
--- the words by other names
-pub alters_at : (B h h₂ y y₂ p p₂ n n₂ : ℕ) (note : Bool) (key value noise c : List ℕ) (f : ℕ) (ix c' : List ℕ) (f' : ℕ) (ix' : List ℕ) (r : Change) → h ≡ h₂ → y ≡ y₂ → p ≡ p₂
-    → n ≡ n₂ → Alters B h y p n note key value noise c f ix c' f' ix' r → Alters B h₂ y₂ p₂ n₂ note key value noise c f ix c' f' ix' r
-alters_at B h h₂ y y₂ p p₂ n n₂ note key value noise c f ix c' f' ix' r eh ey ep en a =
-    subst (λ (i : ℕ). Alters B i y₂ p₂ n₂ note key value noise c f ix c' f' ix' r) eh
-    (subst (λ (i : ℕ). Alters B h i p₂ n₂ note key value noise c f ix c' f' ix' r) ey
-    (subst (λ (i : ℕ). Alters B h y i n₂ note key value noise c f ix c' f' ix' r) ep (subst (λ (i : ℕ). Alters B h y p i note key value noise c f ix c' f' ix' r) en a)))
+-- a refusal that is handed up is the answer
+pub handed_up : (e : Refusal) (r : Result ℕ Refusal) → IsErrAnd r (λ x. x ≡ e) → (P : Answer → Type 0) → P (Refused (refusal_number e)) → P (answer_of r)
+handed_up e (Ok n) q P p = absurd q
+handed_up e (Err x) q P p = subst (λ (y : Refusal). P (Refused (refusal_number y))) (sym q) p
 
 -- ---- THE CALLS
 module _ (c : List ℕ) (f : ℕ) (w key : List ℕ) where
@@ -308,53 +288,58 @@ module _ (c : List ℕ) (f : ℕ) (w key : List ℕ) where
       ∙ ap (lent (lent_of c f w)) (keyed_only key (due (denial_in true key (map_in c) (blocks_of c)) (done (alter key none (map_in c)))))
       ∙ lent_due (lent_of c f w) (key_number key 0) (due (denial_in true key (map_in c) (blocks_of c)) (done (alter key none (map_in c))))
 
-  module _ (noise : List ℕ) (n : ℕ) where
+  module _ (noise : List ℕ) (i : ℕ) where
     -- refused before any search
-    refused_first : (x : Rec) (s a : Says (Map (List ℕ))) (i : ℕ) → s ≡ due (lent_number (lent_of c f w) i) a → 0 < n → Tested c f w i n
-        → Ended x noise c f w c f w s (Refused n)
+    refused_first : (x : Rec) (s a : Says (Map (List ℕ))) → s ≡ due (lent_number (lent_of c f w) i) a → (e : Refusal) → Tested c f w i (refusal_number e)
+        → Ended x noise c f w c f w s (Refused (refusal_number e))
     unfolding did_more did_none
-    refused_first x s a i e l t =
+    refused_first x s a q e t =
+        let n : ℕ = refusal_number e in
         record {
           did = did_more (omega arith) (omega arith) (did_none c f);
           refused = λ _ _. (refl, refl, refl);
           size = refl;
           right = λ kept.
-              subst (λ (s : Says (Map (List ℕ))). Changes x c f w c f w [] s (Refused n)) (sym (e ∙ ap (λ (j : ℕ). due j a) (sym (t.due kept)) ∙ due_refused n a l))
+              subst (λ (s : Says (Map (List ℕ))). Changes x c f w c f w [] s (Refused n)) (sym (q ∙ ap (λ (j : ℕ). due j a) (sym (t.due kept)) ∙ due_refused n a (refusal_some e)))
               (record { ends = (refl, refl, refl, refl, refl) });
         }
 
-    pub put_refused : (value : List ℕ) → 0 < n → Tested c f w (put_number key value) n
-        → Ended (record_of false key value) noise c f w c f w (put_answer (lent_of c f w) key value (map_in c)) (Refused n)
-    put_refused value l t = refused_first (record_of false key value) _ _ (put_number key value) (put_due value) l t
-
-    pub delete_refused : 0 < n → Tested c f w (key_number key 0) n
-        → Ended (record_of true key []) noise c f w c f w (delete_answer (lent_of c f w) key (map_in c)) (Refused n)
-    delete_refused l t = refused_first (record_of true key []) _ _ (key_number key 0) delete_due l t
-
-    -- the body ran
-    module _ (c' : List ℕ) (f' : ℕ) (w' : List ℕ) (size : length w' ≡ length w) (r : Answer) (z : n ≡ 0) where
-      pub put_ran : (value : List ℕ) → Tested c f w (put_number key value) n → Runs false key value noise c f w c' f' w' r
-          → Ended (record_of false key value) noise c f w c' f' w' (put_answer (lent_of c f w) key value (map_in c)) r
-      put_ran value t a =
-          record {
-            did = a.did;
-            refused = a.refused;
+    -- what is lent of the chip comes back as it was at the end, d and g
+    module _ (c' d : List ℕ) (f' g : ℕ) (chip : c' ≡ d) (fuse : f' ≡ g) (w' : List ℕ) (size : length w' ≡ length w) (r : Answer) where
+      ran : (note : Bool) (key v : List ℕ) (x : Rec) → x ≡ record_of note key v → (s a : Says (Map (List ℕ))) → s ≡ due (lent_number (lent_of c f w) i) a
+          → a ≡ due (denial_in note key (map_in c) (blocks_of c)) (done (alter key (record_of note key v).what (map_in c)))
+          → Tested c f w i 0 → Runs note key v noise c f w d g w' r → Ended x noise c f w c' f' w' s r
+      ran note key v x k s a q z t b =
+          rw (chip, fuse, k)
+          (record {
+            did = b.did;
+            refused = b.refused;
             size = size;
             right = λ kept.
-                subst (λ (s : Says (Map (List ℕ))). Changes (record_of false key value) c f w c' f' w' a.did.ops s r)
-                (sym (put_due value ∙ ap (λ (j : ℕ). due j (due (denial_in false key (map_in c) (blocks_of c)) (done (alter key (some value) (map_in c))))) (sym (t.due kept) ∙ z)))
-                (a.right kept (t.lit z) (t.marked z));
-          }
+                subst (λ (s : Says (Map (List ℕ))). Changes (record_of note key v) c f w d g w' b.did.ops s r) (sym (q ∙ ap (λ (j : ℕ). due j a) (sym (t.due kept)) ∙ z))
+                (b.right kept (t.lit refl) (t.marked refl));
+          })
 
-      pub delete_ran : (v : List ℕ) → Tested c f w (key_number key 0) n → Runs true key v noise c f w c' f' w' r
-          → Ended (record_of true key []) noise c f w c' f' w' (delete_answer (lent_of c f w) key (map_in c)) r
-      delete_ran v t a =
-          record {
-            did = a.did;
-            refused = a.refused;
-            size = size;
-            right = λ kept.
-                subst (λ (s : Says (Map (List ℕ))). Changes (record_of true key []) c f w c' f' w' a.did.ops s r)
-                (sym (delete_due ∙ ap (λ (j : ℕ). due j (due (denial_in true key (map_in c) (blocks_of c)) (done (alter key none (map_in c))))) (sym (t.due kept) ∙ z)))
-                (a.right kept (t.lit z) (t.marked z));
-          }
+    module _ (value : List ℕ) (n : i ≡ put_number key value) where
+      put_by : put_answer (lent_of c f w) key value (map_in c)
+          ≡ due (lent_number (lent_of c f w) i) (due (denial_in false key (map_in c) (blocks_of c)) (done (alter key (some value) (map_in c))))
+      put_by = put_due value ∙ ap (λ (j : ℕ). due (lent_number (lent_of c f w) j) (due (denial_in false key (map_in c) (blocks_of c)) (done (alter key (some value) (map_in c))))) (sym n)
+
+      pub put_refused : (e : Refusal) → Tested c f w i (refusal_number e) → PutEnds noise c f w key value c f w (Refused (refusal_number e))
+      put_refused = refused_first (record_of false key value) _ _ put_by
+
+      pub put_ran : (c' d : List ℕ) (f' g : ℕ) → c' ≡ d → f' ≡ g → (w' : List ℕ) → length w' ≡ length w → (r : Answer) → Tested c f w i 0
+          → Runs false key value noise c f w d g w' r → PutEnds noise c f w key value c' f' w' r
+      put_ran c' d f' g chip fuse w' size r = ran c' d f' g chip fuse w' size r false key value _ refl _ _ put_by refl
+
+    module _ (n : i ≡ key_number key 0) where
+      delete_by : delete_answer (lent_of c f w) key (map_in c)
+          ≡ due (lent_number (lent_of c f w) i) (due (denial_in true key (map_in c) (blocks_of c)) (done (alter key none (map_in c))))
+      delete_by = delete_due ∙ ap (λ (j : ℕ). due (lent_number (lent_of c f w) j) (due (denial_in true key (map_in c) (blocks_of c)) (done (alter key none (map_in c))))) (sym n)
+
+      pub delete_refused : (e : Refusal) → Tested c f w i (refusal_number e) → DeleteEnds noise c f w key c f w (Refused (refusal_number e))
+      delete_refused = refused_first (record_of true key []) _ _ delete_by
+
+      pub delete_ran : (c' d : List ℕ) (f' g : ℕ) → c' ≡ d → f' ≡ g → (w' : List ℕ) → length w' ≡ length w → (r : Answer) → Tested c f w i 0
+          → Runs true key [] noise c f w d g w' r → DeleteEnds noise c f w key c' f' w' r
+      delete_ran c' d f' g chip fuse w' size r = ran c' d f' g chip fuse w' size r true key [] _ refl _ _ delete_by refl

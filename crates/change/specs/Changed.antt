@@ -9,8 +9,7 @@ use Rattle.ring_log.specs.Map.{Map}
 use Rattle.ring_log.specs.Ring.{chip_of, head, room}
 use Rattle.ring_log.specs.Timely.{Timely}
 use Rattle.lent.specs.Area.{blocks_of, map_in, mark, passed, lent_of, Holds, Kept, Store}
-use Rattle.lent.specs.declared.Answer.{Answer}
-use Rattle.lent.specs.declared.Answer.TheVariants.{Done, Refused}
+use Rattle.lent.specs.Ended.{Answer, Done, Refused}
 
 -- A REFUSED CALL LEAVES CHIP, FAULT SCRIPT AND WORK AREA AS THEY WERE: refused with 1, 2, 3, 4 or 5. Of 7 and 8 nothing is said here: the power may have
 -- failed under the call, or an area that no start made ready may have been found to lie in the middle of it

@@ -2,85 +2,81 @@
 // How they end is said in specs/Changed.antt.
 #![tactic(auto)]
 
-ghost use Rattle.std.specs.Prelude.{◌≡◌, ◌≤◌, ◌<◌, length};
+ghost use Rattle.std.specs.Prelude.{◌≡◌, ◌≤◌, ◌<◌, length, OnOk};
+ghost use Rattle.chip.specs.Lent.{Same};
 ghost use Rattle.lent.specs.Area.{Checked};
+ghost use Rattle.lent.specs.Ended.{answer_of, number_due};
 ghost use Rattle.change.specs.Changed.{PutEnds, DeleteEnds};
 ghost use Rattle.append.specs.Steps.{Keyed};
 ghost use Rattle.change.specs.Steps.{put_number, Words, Settles, Runs};
 
-use append::Change;
-use lent::Answer;
+use append::{Made, Unmade};
+use chip::{Chip, Halt};
+use lent::{Refusal, Standing};
+use ring_log::Head;
 
 // The area and the answer after a change: the new numbers are put down where it was made, and the mark where the power went.
-fn settle(work: &mut [u32], change: Change) -> Answer
+fn settle(work: &mut [u32], change: Result<Made, Unmade>) -> Result<usize, Refusal>
     requires { (16 ≤ length work.old) × Words change }
-    ensures { Settles work.old work.new change result }
+    ensures { Settles work.old work.new change (answer_of result) }
 {
     match change {
-        Change::Made(h, next, n, passed) => {
-            lent::note_down(work, h as u32, next as u32, n as u32, passed as u32);
-            Answer::Done(0)
+        Ok(made) => {
+            let standing = Standing {
+                head: made.head.block as u32,
+                next: made.next as u32,
+                keys: made.keys as u32,
+                passed: made.passed as u32,
+            };
+            lent::note_down(work, standing);
+            Ok(0)
         }
-        Change::Denied(k) => Answer::Refused(k),
-        Change::Lost => {
-            work[0] = 2;
-            Answer::Refused(7)
+        Err(Unmade::Denied(refusal)) => Err(refusal),
+        Err(Unmade::Halted(Halt::Dark)) => {
+            work[lent::MARK] = lent::GONE;
+            Err(Refusal::PowerGone)
         }
-        Change::Broken => Answer::Refused(8),
+        Err(Unmade::Halted(Halt::Dirty)) => Err(Refusal::NotStarted),
     }
 }
 
 // The body of put and delete, once all is tested.
 fn run_change(
-    chip: &mut [u8],
+    chip: &mut Chip<'_>,
     work: &mut [u32],
     note: bool,
     key: &[u8],
     value: &[u8],
-    fuse: &mut u64,
-    noise: &[u8],
-) -> Answer
-    requires { Checked chip.old work.old × Keyed key.now value.now × (length noise.now ≡ 4096) }
-    ensures { Runs note key.now value.now noise.now chip.old fuse.old work.old chip.new fuse.new work.new result }
+) -> Result<usize, Refusal>
+    requires { Checked chip.old.bytes.now work.old × Keyed key.now value.now × (length chip.old.noise.now ≡ 4096) }
+    ensures same { Same chip.old chip.new }
+    ensures right { Runs note key.now value.now chip.old.noise.now chip.old.bytes.now chip.old.fuse.now work.old chip.new.bytes.now chip.new.fuse.now work.new (answer_of result) }
 {
-    let b = chip.len() / 4096;
-    let h = index::word(work[1]);
-    let next = index::word(work[2]);
-    let n = index::word(work[3]);
-    let passed = index::word(work[4]);
-    let change = append::make_change(
-        chip,
-        &mut work[16..],
-        b,
-        h,
-        next,
-        passed,
-        n,
-        note,
-        key,
-        value,
-        fuse,
-        noise,
-    );
+    let head = Head {
+        block: work[lent::HEAD] as usize,
+        blocks: chip.bytes().len() / 4096,
+    };
+    let next = work[lent::NEXT] as usize;
+    let n = work[lent::KEYS] as usize;
+    let passed = work[lent::CURSOR] as usize;
+    let index = &mut work[lent::INDEX..];
+    let change = append::make_change(chip, index, head, next, passed, n, note, key, value);
     settle(work, change)
 }
 
-// Refusals 1 and 2 of what is to be put: the key can't be printed, the value is too long; 0 if none is due.
-fn put_refusal(key: &[u8], value: &[u8]) -> u32
-    ensures right { result ≡ put_number key.now value.now }
-    ensures keyed { result ≡ 0 → Keyed key.now value.now }
+// Refusals 1 and 2 of what is to be put: the key can't be printed, the value is too long.
+fn put_refusal(key: &[u8], value: &[u8]) -> Result<(), Refusal>
+    ensures right { number_due result ≡ put_number key.now value.now }
+    ensures keyed { OnOk result (Keyed key.now value.now) }
 {
-    let k = lent::key_refusal(key);
-    if 0 < k {
-        return k;
-    }
+    lent::key_refusal(key)?;
     if !ring_log::is_printed(key) {
-        return 1;
+        return Err(Refusal::BadKey);
     }
     if record::MOST_VALUE < value.len() {
-        return 2;
+        return Err(Refusal::LongValue);
     }
-    0
+    Ok(())
 }
 
 // The key has the value from now on, whether or not it had one. Its bytes must be such as can be printed.
@@ -91,14 +87,11 @@ pub fn put(
     noise: &[u8; 4096],
     key: &[u8],
     value: &[u8],
-) -> Answer
-    ensures { PutEnds noise.now chip.old fuse.old work.old key.now value.now chip.new fuse.new work.new result }
+) -> Result<usize, Refusal>
+    ensures { PutEnds noise.now chip.old fuse.old work.old key.now value.now chip.new fuse.new work.new (answer_of result) }
 {
-    let k = lent::refusal(chip, work, fuse, put_refusal(key, value));
-    if 0 < k {
-        return Answer::Refused(k);
-    }
-    run_change(chip, work, false, key, value, fuse, noise)
+    lent::first_refusal(chip, work, fuse, put_refusal(key, value))?;
+    run_change(&mut Chip::new(chip, fuse, noise), work, false, key, value)
 }
 
 // The key has no value any more. Any key is taken, so that old ones can be removed.
@@ -108,13 +101,9 @@ pub fn delete(
     fuse: &mut u64,
     noise: &[u8; 4096],
     key: &[u8],
-) -> Answer
-    ensures { DeleteEnds noise.now chip.old fuse.old work.old key.now chip.new fuse.new work.new result }
+) -> Result<usize, Refusal>
+    ensures { DeleteEnds noise.now chip.old fuse.old work.old key.now chip.new fuse.new work.new (answer_of result) }
 {
-    let k = lent::refusal(chip, work, fuse, lent::key_refusal(key));
-    if 0 < k {
-        return Answer::Refused(k);
-    }
-    let none = &key[..0];
-    run_change(chip, work, true, key, none, fuse, noise)
+    lent::first_refusal(chip, work, fuse, lent::key_refusal(key))?;
+    run_change(&mut Chip::new(chip, fuse, noise), work, true, key, &[])
 }

@@ -2,7 +2,7 @@
 use mathlib.Core.Path.{◌≡◌, refl, sym, ap, ◌∙◌, subst}
 use mathlib.Core.Logic.{inl, inr}
 use mathlib.Core.List.{List, []}
-use mathlib.Core.Bool.{Bool, true, false, not, ◌||◌, true≢false}
+use mathlib.Core.Bool.{Bool, true, false, not, ◌||◌}
 use Prim.Native.Nat.{ℕ, zero, suc, ◌+◌, ◌-◌, ◌*◌, ◌≤◌, ◌<◌}
 use native.Mathlib.Decide.{dec_lt}
 use native.Mathlib.Omega.{arith}
@@ -11,11 +11,10 @@ use lib.ListN.{length, set, length-set}
 use borrow.Author.Tests.{eq-eqb, ne_eqb}
 use Rattle.std.specs.Prelude.{Result, Err}
 use Rattle.chip.specs.Chip.{Power, stays, power, erased}
-use Rattle.chip.specs.Lent.{Same, Lit, Erases}
+use Rattle.chip.specs.Lent.{Same, Erases}
 use Rattle.chip.specs.Play.{Did}
 use Rattle.chip.specs.declared.Chip.{Chip}
 use Rattle.chip.specs.declared.Halt.{Halt}
-use Rattle.chip.specs.declared.Halt.TheVariants.{Dark, Dirty}
 use Rattle.chip.proofs.Plays.{did_none, did_erase, did_more, did_then}
 use Rattle.ring_log.specs.Map.{Map}
 use Rattle.ring_log.specs.Ring.{chip_of}
@@ -71,17 +70,6 @@ module _ (a d d' : Chip) (x : ℕ) (s : Same a d) (r : Result (Unit {0}) Halt) (
 
   pub blank_next : 0 < d'.fuse.now → Blank (16 * x) d.bytes.now → Blank (16 * (x + 1)) d'.bytes.now
   blank_next = blank_more d.noise.now d.bytes.now d'.bytes.now x d.fuse.now d'.fuse.now h e.chip e.fuse
-
--- an erase ends dark if it ends with an error
-pub lit_err : (f : ℕ) (e : Halt) → Lit f (Err e) → f ≡ 0
-lit_err f Dark l = l
-lit_err f Dirty l = absurd l
-
-pub clears_lost : (b : ℕ) (c : List ℕ) (f : ℕ) → f ≡ 0 → ClearsAll b c f false
-clears_lost b c f z = record { blank = λ e. absurd (true≢false (sym e)); lit = λ e. absurd (true≢false (sym e)); lost = λ _. z }
-
-pub clears_all : (b : ℕ) (c : List ℕ) (f x : ℕ) → x ≡ b → 0 < f → Blank (16 * x) c → ClearsAll b c f true
-clears_all b c f x e l h = record { blank = λ _ p m. h p (omega arith); lit = λ _. l; lost = λ e. absurd (true≢false e) }
 
 -- ---- FORMAT
 

@@ -6,7 +6,7 @@ use Prim.Native.Nat.{ℕ, zero, suc, ◌+◌, ◌*◌, ◌/◌, ◌%◌, ◌≤�
 use native.Mathlib.Omega.{arith}
 use lib.Dec.{eqb, leb}
 use lib.ListN.{length}
-use borrow.Author.Tests.{eq-eqb, ne_eqb, le-leb, lt-leb, leb-true, eqb-true}
+use borrow.Author.Tests.{eq-eqb, ne_eqb, le-leb, leb-true, eqb-true}
 use Rattle.page.proofs.All.{and_left, and_right}
 use Rattle.ring_log.specs.Ring.{most_blocks}
 use Rattle.ring_log.specs.Answers.{Lent, sizes_test, refused, refuse, lent, keyed}
@@ -96,14 +96,6 @@ module _ (c : List ℕ) (f : ℕ) (w : List ℕ) (n : ℕ) where
 -- the same by another name of the number
 pub tested_of : (c : List ℕ) (f : ℕ) (w : List ℕ) (i j r : ℕ) → i ≡ j → Tested c f w i r → Tested c f w j r
 tested_of c f w i j r e t = subst (λ (n : ℕ). Tested c f w n r) e t
-
--- ---- THE KEY
-module _ (k : List ℕ) (n : ℕ) where
-  by_length : (a b : Bool) → eqb (length k) 0 ≡ a → leb 17 (length k) ≡ b → key_number k n ≡ number 1 (a || b) n
-  by_length a b p q = rw (p, q)
-
-  pub key_fits : 0 < length k → length k ≤ 16 → n ≡ key_number k n
-  key_fits p q = sym (by_length false false (ne_eqb (length k) 0 (λ e. omega arith)) (lt-leb 17 (length k) (omega arith)))
 
 -- ---- THE ANSWERS OF DOCUMENT 01, by the number that is due
 module _ {A : Type 0} where
