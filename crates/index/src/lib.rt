@@ -1,5 +1,6 @@
 // The index: page numbers in the order of the keys that stand on those pages, in a part of the lent work area. Find a key by binary search, put a page in,
 // take one out. The definitions are in specs/Index.antt. No entries, whatever they are, make a call trap.
+// Where their number changes it is passed beside the slice, which is lent (no heap) and longer than they are.
 #![tactic(auto)]
 
 ghost use Rattle.std.specs.Prelude.{◌≡◌, ◌++◌, ◌+◌, ◌-◌, ◌*◌, ◌≤◌, ◌<◌, length, take, drop};

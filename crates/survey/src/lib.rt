@@ -12,6 +12,7 @@ use lent::Refusal;
 use page::Look;
 
 // How many pages are blank, sound and spoilt; the first spoilt one, and its lowest byte that disagrees with its copy (0 and 0 if there is none).
+// No Option: the C interface has these five numbers, and seen_of says them.
 #[derive(Clone, Copy, Default)]
 pub struct Seen {
     pub blank: u64,
