@@ -32,8 +32,8 @@ fn compare_at(chip: &[u8], p: usize, key: &[u8]) -> Ordering
     compare(record::key_on(&begins), key)
 }
 
-// The key's place in the index: where it stands, or else where it would stand. Whatever the entries are, the place is within; where they are pages of the chip in
-// the order of their keys, it is the key's.
+// The key's place in the index: where it stands, or else where it would stand. Whatever the entries are, the place is within; where they are pages of the
+// chip in the order of their keys, it is the key's.
 pub fn find(chip: &[u8], index: &[u32], key: &[u8]) -> Result<usize, usize>
     ensures within { Within (length index.now) result }
     ensures right { Ordered chip.now index.now → Finds (keys_of chip.now index.now) key.now result }
