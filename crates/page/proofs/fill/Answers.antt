@@ -1,9 +1,10 @@
 -- `page::fill` meets its contract. Assumes nothing.
-use mathlib.Core.Path.{◌≡◌, ap}
+use mathlib.Core.Path.{◌≡◌, refl, ap}
 use mathlib.Core.List.{List}
-use Prim.Native.Nat.{ℕ, ◌+◌, ◌-◌, ◌*◌, ◌/◌, ◌%◌, ◌≤◌}
+use Prim.Native.Nat.{ℕ, ◌+◌, ◌*◌, ◌/◌, ◌%◌, ◌≤◌}
 use native.Mathlib.Omega.{arith}
-use Rattle.page.specs.Page.{byte, ones_to}
+use lib.ListN.{take}
+use Rattle.page.specs.Page.{byte, ones_to, zero_bits}
 use Rattle.page.proofs.Ones.{ones_most}
 use Rattle.page.proofs.Filling.{fill_ones, fill_makes}
 use Rattle.page.proofs.fill.Goals as goal
@@ -20,6 +21,6 @@ overflow_sub-zeros c =
 pub returns : goal.returns
 returns c =
     let e = fill_ones c.args.page.now c.told-page c.args.used c.requires.0 c.requires.1 (8 * ((c.args.used + 7) / 8)) (omega arith) in
-    let high : byte c.to_be_bytes.result 0 ≡ (2032 - c.ones_to-zeros.result) / 256 = omega (arith, ap (λ (l : List ℕ). byte l 0) c.to_be_bytes.ensures) in
-    let low : byte c.to_be_bytes.result 1 ≡ (2032 - c.ones_to-zeros.result) % 256 = omega (arith, ap (λ (l : List ℕ). byte l 1) c.to_be_bytes.ensures) in
-    fill_makes c.args.page.now c.told-page (2032 - c.ones_to-zeros.result) _ _ (omega arith) high low
+    let high : byte c.to_be_bytes.result 0 ≡ zero_bits (take 254 c.args.page.now) / 256 = omega (arith, ap (λ (l : List ℕ). byte l 0) c.to_be_bytes.ensures) in
+    let low : byte c.to_be_bytes.result 1 ≡ zero_bits (take 254 c.args.page.now) % 256 = omega (arith, ap (λ (l : List ℕ). byte l 1) c.to_be_bytes.ensures) in
+    fill_makes c.args.page.now c.told-page _ _ _ refl high low
