@@ -7,18 +7,18 @@ use Rattle.ring.proofs.look_at_seals.Goals as goal
 
 pub loop-x-init : goal.loop-x-init
 loop-x-init c = let k = chip_of c.args.chip.now in
-    (omega arith, c.sealed-first.ensures, head_begins k c.args.b, counted_first (λ y. sealed k y) _ _ c.sealed-first.ensures (omega (arith, c.from-count.ensures, ones c.sealed-first.result)))
+    (omega arith, c.sealed-first.ensures, head_begins k c.args.b, counted_first (λ y. sealed k y) _ _ c.sealed-first.ensures (omega (arith, ones c.sealed-first.result)))
 
 pub overflow_add-count : goal.overflow_add-count
 overflow_add-count c =
-    omega (arith, c.loop-x.invariant.3, counted_le (λ y. sealed (chip_of c.args.chip.now) y) c.loop-x.x, c.from-count-in-loop-x.ensures, ones c.sealed-here.result, one_not c.sealed-here.result)
+    omega (arith, c.loop-x.invariant.3, counted_le (λ y. sealed (chip_of c.args.chip.now) y) c.loop-x.x, ones c.sealed-here.result, one_not c.sealed-here.result)
 
 pub loop-x-preserved : goal.loop-x-preserved
 loop-x-preserved c = let k = chip_of c.args.chip.now in (
   omega (arith, c.head_by-head.ensures, pick_inside k c.loop-x.head c.loop-x.x c.loop-x.before c.sealed-here.result c.loop-x.invariant.0),
   sealed_on k c.loop-x.x _ c.sealed-here.ensures,
   c.loop-x.invariant.2 ∙ pick_turn k c.args.b c.loop-x.x c.loop-x.head c.loop-x.before c.sealed-here.result (omega arith) (omega arith) c.loop-x.invariant.1 c.sealed-here.ensures _ c.head_by-head.ensures,
-  counted_next (λ y. sealed k y) c.loop-x.x c.loop-x.count _ _ c.loop-x.invariant.3 c.sealed-here.ensures (omega (arith, c.from-count-in-loop-x.ensures, ones c.sealed-here.result)),
+  counted_next (λ y. sealed k y) c.loop-x.x c.loop-x.count _ _ c.loop-x.invariant.3 c.sealed-here.ensures (omega (arith, ones c.sealed-here.result)),
 )
 
 pub returns : goal.returns
