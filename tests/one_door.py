@@ -4,13 +4,13 @@
 A contract sees a function's first state and its last. What happens between them is watched here, by text: in the libraries, but for the bodies of those three
 functions and for the struct `Chip` with its methods, and without comments, `ghost use` and contracts, every word `chip`, `fuse` and `noise` is one of these:
 
-  chip   a parameter `&[u8]`, `&mut [u8]` or `&mut Chip`; a whole argument; `chip.len()`; a call of a method of `Chip`; `let mut chip = Chip::new(..)`, and then
-         `&mut chip` as a whole argument; the crate, in `chip::name(`
-  fuse   a parameter `&u64` or `&mut u64`; a whole argument; `*fuse == 0` as a whole condition, or in brackets of its own
+  chip   a parameter `&[u8]`, `&mut [u8]` or `&mut Chip`; a whole argument; `chip.len()`, `chip.bytes().len()`; a call of a method of `Chip`; `let mut chip =
+         Chip::new(..)`, and then `&mut chip` as a whole argument; the crate, in `chip::name(`
+  fuse   a parameter `&u64` or `&mut u64`; a whole argument; `*fuse == 0` as a whole condition, the first of several with `||`, or in brackets of its own
   noise  a parameter `&[u8]` or `&[u8; 4096]`; a whole argument
 
-A whole argument goes to a parameter of that name, of a function of the libraries; and such a parameter is given nothing else, but for a chip's bytes:
-`chip.bytes()`. The fields of `Chip` are private: outside the crate chip the language watches over them, and in it they are named in the methods alone.
+A whole argument goes to a parameter of that name, of a function of the libraries; and such a parameter is given nothing else, but for a chip's bytes,
+`chip.bytes()`, and what is made for it, `&mut Chip::new(..)`. The fields of `Chip` are private: outside the crate chip the language watches over them, and in it they are named in the methods alone.
 """
 import pathlib
 import re
@@ -20,7 +20,7 @@ ROOT = pathlib.Path(__file__).resolve().parent.parent
 TYPES = {"chip": ("&[u8]", "&mut[u8]", "&mutChip"), "fuse": ("&u64", "&mutu64"), "noise": ("&[u8]", "&[u8;4096]")}
 DOORS = ["erase", "read", "write"]
 METHODS = ["bytes", "erase", "new", "write"]  # of the struct Chip, those that are public
-LENT = [("&[u8]", "chip.bytes()"), ("&mutChip", "&mutchip")]  # what a parameter `chip` may be given besides a `chip`
+LENT = [("&[u8]", "chip.bytes()"), ("&mutChip", "&mutchip"), ("&mutChip", "&mutChip::new(chip,fuse,noise)")]  # what a parameter `chip` may be given besides a `chip`
 SKIPPED = r"\s+|//[^\n]*|/\*.*?\*/|\bghost\s+use\b[^;]*;|'[a-z_]\w*(?!')"  # a lifetime says nothing here
 EXPORTED = ["#", "[", "unsafe", "(", "no_mangle", ")", "]"]  # no code: what it marks has a name for C
 TOKEN = re.compile(rf"(?P<skip>{SKIPPED})|\"(?:\\.|[^\"\\])*\"|'(?:\\.|[^'\\])'|\w+|<<=|>>=|::|->|=>|[=!<>]=|&&|\|\||\.\.=?|[-+*/%^&|]=|.", re.S)
@@ -112,12 +112,15 @@ class Source:
         if i in self.parameters or self.is_argument(i):
             return True
         if word == "fuse":
-            return t[i - 1 : i + 3] == ["*", "fuse", "==", "0"] and (t[i - 2], t[i + 3]) in (("if", "{"), ("(", ")"))
+            return t[i - 1 : i + 3] == ["*", "fuse", "==", "0"] and (t[i - 2], t[i + 3]) in (("if", "{"), ("if", "||"), ("(", ")"))
         if word == "chip" and t[i + 1] == "::" and t[i - 1] != "::":
             return t[i - 1] == "use" or t[i + 3] == "("
         if word == "chip" and t[i - 2 : i + 5] == ["let", "mut", "chip", "=", "Chip", "::", "new"]:
             return True
-        return word == "chip" and (t[i + 1 : i + 5] == [".", "len", "(", ")"] or t[i + 1] == "." and t[i + 2] in METHODS[1:] and t[i + 3] == "(")
+        size = [".", "len", "(", ")"]
+        if word == "chip" and t[i + 1 : i + 9] == [".", "bytes", "(", ")"] + size:
+            return True
+        return word == "chip" and (t[i + 1 : i + 5] == size or t[i + 1] == "." and t[i + 2] in METHODS[1:] and t[i + 3] == "(")
 
     def findings(self):
         t = self.t
@@ -127,7 +130,8 @@ class Source:
             here = f"{self.name}:{self.lines[i] if i < len(self.lines) else 0}"
             if word in TYPES and not self.allowed(i):
                 yield f"{here}: `{' '.join(t[max(0, i - 3) : i + 5]).strip()}`: {word} is used in another way"
-            if word == "Chip" and t[i + 1] == "::" and t[i + 2] in METHODS and t[i - 4 : i] != ["let", "mut", "chip", "="] or word == "." and t[i + 1 : i + 3] == ["bytes", "("] and t[i - 1] != "chip":
+            made = t[i - 4 : i] == ["let", "mut", "chip", "="] or t[i - 2 : i] == ["&", "mut"] and t[i - 3] in ("(", ",")
+            if word == "Chip" and t[i + 1] == "::" and t[i + 2] in METHODS and not made or word == "." and t[i + 1 : i + 3] == ["bytes", "("] and t[i - 1] != "chip":
                 yield f"{here}: `{' '.join(t[max(0, i - 3) : i + 5]).strip()}`: a Chip under another name"
             if self.crate == "chip" and word == "." and t[i + 1] in ("bytes", "fuse", "noise") and t[i + 2] != "(":
                 yield f"{here}: `.{t[i + 1]}`: a field of Chip is named outside its methods"

@@ -42,6 +42,10 @@ fn carry<'a>(chip: &'a mut Chip<'_>, p: usize) {
 }
 fn seek(chip: &[u8], p: usize) {}
 fn call(chip: &mut [u8], fuse: &mut u64, noise: &[u8; 4096]) {
+    if *fuse == 0 || noise_of(1) {
+        return;
+    }
+    carry(&mut Chip::new(chip, fuse, noise), chip.bytes().len());
     let mut chip = Chip::new(chip, fuse, noise);
     carry(&mut chip, 0);
 }
@@ -102,6 +106,10 @@ carry(&mut other, 0);
 let mut other = Chip::new(chip, fuse, noise);
 let mut chip = Chip::new(work, fuse, noise);
 Chip::new(chip, &mut 5, noise);
+carry(&mut Chip::new(work, fuse, noise), 0);
+let other = &mut Chip::new(chip, fuse, noise);
+if *fuse == 0 + 3 || true { return 0; }
+let x = chip.bytes().first();
 let chip = &mut chip;
 END
 rm -r "$copy/crates/planted"

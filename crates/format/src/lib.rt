@@ -42,8 +42,7 @@ pub fn format(
     }
     // the store is not ready until a start
     work[lent::MARK] = lent::UNREADY;
-    let mut lent = Chip::new(chip, fuse, noise);
-    match erase_all(&mut lent, b) {
+    match erase_all(&mut Chip::new(chip, fuse, noise), b) {
         Ok(()) => Ok(0),
         Err(_) => {
             work[lent::MARK] = lent::GONE;

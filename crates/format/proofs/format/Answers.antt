@@ -9,7 +9,7 @@ use Rattle.format.proofs.format.Goals as goal
 pub returns-in-Ok-clause-right : goal.returns-in-Ok-clause-right
 returns-in-Ok-clause-right c = let s = c.in_ok-b.ensures.sized in
     format_done c.args.chip.now c.args.fuse.now c.args.work.now s.1 (omega arith) (λ e. omega arith) _ s.0 _ _ _ _ (search rules) (search rules)
-    (c.erase_all.ensures.same.size ∙ ap length c.new-lent.ensures.bytes.1) c.in-Ok.ensures.right
+    (c.erase_all.ensures.same.size ∙ ap length c.new.ensures.bytes.1) c.in-Ok.ensures.right
 
 pub returns-in-Err-clause-right : goal.returns-in-Err-clause-right
 returns-in-Err-clause-right c = let s = c.in_ok-b.ensures.sized in
