@@ -106,7 +106,7 @@ fn denied(found: Result<usize, usize>, note: bool, n: usize, b: usize) -> Result
     Ok(())
 }
 
-// A value is put, or a note of a deletion. The first n words of the index are its entries.
+// A value is put, or a note of a deletion. The first n words of the index are its entries. (`note` is a bool as in `record::encode`; a `Place` begins in `tidy`.)
 pub fn make_change(
     chip: &mut Chip<'_>,
     index: &mut [u32],

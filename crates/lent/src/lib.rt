@@ -77,7 +77,8 @@ pub fn note_down(work: &mut [u32], s: Standing)
     work[CURSOR] = s.passed;
 }
 
-// How many blocks a chip has whose lengths are allowed; any other is refused with 5.
+// How many blocks a chip has whose lengths are allowed; any other is refused with 5. (Chip, area and fuse come apart to every call, as C lends them: the C
+// interface, include/floatstore.h.)
 pub fn blocks(chip: &[u8], work: &[u32]) -> Result<usize, Refusal>
     ensures sized { IfOk result (λ b. (b ≡ blocks_of chip.now) × Sized chip.now work.now) }
     ensures none { OnErr result (IsErrOf result Refusal.BadSize × (sizes_test (length chip.now) (length work.now) ≡ false)) }

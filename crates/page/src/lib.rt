@@ -144,7 +144,7 @@ fn is_counted(page: &Page) -> bool
     counts(page[254], page[255], n)
 }
 
-// Whether a page is sound in its form, which byte 0 says.
+// Whether a page is sound in its form, which byte 0 says. (A byte and no enum, which would be no plainer: `sound` of specs/Page.antt asks it for 1 and for 2.)
 #[tactic(auto, using(crate::proofs::Forms::sound_one_lem, crate::proofs::Forms::sound_two, crate::proofs::Forms::sound_neither))]
 pub fn is_sound(page: &Page) -> bool
     ensures { result ≡ sound page.now }

@@ -37,7 +37,7 @@ impl Mark {
     }
 }
 
-// The longest value that a page of a form has.
+// The longest value that a page of a form has. (The form is a byte and no enum: no plainer, it is asked for 1 alone.)
 fn longest(form: u8) -> u8
     ensures { result ≡ longest form }
 {

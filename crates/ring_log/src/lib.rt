@@ -19,7 +19,8 @@ pub const FIRST: usize = 0;
 // How many it counts.
 pub const RECORDS: usize = 15;
 
-// The head of a ring: which block it is, and of how many.
+// The head of a ring: which block it is, and of how many. (No invariant, so that nobody is asked for more than before: `after` was `block_after`, which
+// docs/STATEMENTS.md named and which asked this of its arguments alone.)
 #[derive(Clone, Copy)]
 pub struct Head {
     pub block: usize,

@@ -27,7 +27,8 @@ fn page_at_log(head: Head, p: usize) -> usize
         + (p - ring_log::FIRST) % ring_log::RECORDS
 }
 
-// The place at the cursor is looked at. A live value is carried to place `next` of the head. Answers how many places of the head are used then.
+// The place at the cursor is looked at. A live value is carried to place `next` of the head. Answers how many places of the head are used then. (No `Place`: the
+// looks that are left are the loop's.)
 fn pass(
     chip: &mut Chip<'_>,
     index: &mut [u32],

@@ -44,7 +44,8 @@ fn make_more(
     sweep_on(chip, index, place)
 }
 
-// A place for the record: first up to 8 places behind the cursor are looked at, and what is live there is carried to the head.
+// A place for the record: first up to 8 places behind the cursor are looked at, and what is live there is carried to the head. (It is given no `Place`: the looks
+// that are left are counted from here on.)
 pub fn make_place(
     chip: &mut Chip<'_>,
     index: &mut [u32],
