@@ -1,7 +1,6 @@
 -- THE ANSWERS AS NUMBERS, for C: what a call is done with, or minus the number of its refusal. Assumes nothing.
 use Rattle.std.specs.Prelude.{◌≡◌, ℕ, ltb, cond, ℤ, pos, neg_ℤ}
-use Rattle.lent.specs.declared.Answer.{Answer}
-use Rattle.lent.specs.declared.Answer.TheVariants.{Done, Refused}
+use Rattle.lent.specs.Ended.{Answer, Done, Refused}
 
 -- a number that an i64 holds. (Lengths and counts of keys are less by far)
 abbrev pub held : ℕ → ℕ

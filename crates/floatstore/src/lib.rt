@@ -5,6 +5,7 @@
 ghost use Rattle.std.specs.Prelude.{◌≡◌, pos, neg_ℤ};
 ghost use Rattle.chip.specs.Play.{Did};
 ghost use Rattle.lent.specs.Area.{blocks_of};
+ghost use Rattle.lent.specs.Ended.{answer_of, refusal_number};
 ghost use Rattle.fetch.specs.Fetched.{Got, Counted, GetEnds, CountEnds};
 ghost use Rattle.change.specs.Changed.{PutEnds, DeleteEnds};
 ghost use Rattle.start.specs.Started.{StartEnds};
@@ -13,32 +14,29 @@ ghost use Rattle.keys.specs.Next.{NextEnds};
 ghost use Rattle.survey.specs.Seen.{Sees};
 ghost use Rattle.floatstore.specs.Numbers.{number_of, held, Answers, version_number};
 
-use lent::Answer;
+use lent::Refusal;
 
 // A number that an i64 holds.
 fn hold(n: usize) -> i64
     ensures { result ≡ pos (held n) }
 {
-    if n < 9223372036854775808 {
-        return n as i64;
-    }
-    9223372036854775807
+    i64::try_from(n).unwrap_or(i64::MAX)
 }
 
 // Minus the number of a refusal.
-fn minus(k: u32) -> i64
-    ensures { result ≡ neg_ℤ (pos k) }
+fn minus(refusal: Refusal) -> i64
+    ensures { result ≡ neg_ℤ (pos (refusal_number refusal)) }
 {
-    -(k as i64)
+    -i64::from(refusal.number())
 }
 
 // The number of an answer.
-fn number(a: Answer) -> i64
-    ensures { result ≡ number_of a }
+fn number(a: Result<usize, Refusal>) -> i64
+    ensures { result ≡ number_of (answer_of a) }
 {
     match a {
-        Answer::Done(n) => hold(n),
-        Answer::Refused(k) => minus(k),
+        Ok(n) => hold(n),
+        Err(refusal) => minus(refusal),
     }
 }
 
