@@ -86,7 +86,10 @@ pub fn read(chip: &[u8], at: usize, to: &mut [u8])
     requires { at + length to.old ≤ length chip.now }
     ensures { to.new ≡ take (length to.old) (drop at chip.now) }
 {
-    to.copy_from_slice(&chip[at..at + to.len()]);
+    // no copy_from_slice: it is called, not taken in, and a search in the index takes a seventh longer
+    for i in 0..to.len() {
+        to[i] = chip[at + i];
+    }
 }
 
 // N bytes of the chip, from byte `at` on.
