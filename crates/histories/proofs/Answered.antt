@@ -17,8 +17,7 @@ use Rattle.ring_log.proofs.AnswerLaws.{refuse_other, refuse_done, done_never, pu
 use Rattle.lent.specs.Area.{map_in}
 use Rattle.fetch.specs.Fetched.{Gets, Counts, GetEnds, CountEnds}
 use Rattle.change.specs.Changed.{PutEnds, DeleteEnds}
-use Rattle.lent.specs.declared.Answer.{Answer}
-use Rattle.lent.specs.declared.Answer.TheVariants.{Done, Refused}
+use Rattle.lent.specs.Ended.{Answer, Done, Refused}
 use Rattle.lent.proofs.Numbers.{sizes_hold, refused_inj, done≢refused}
 use Rattle.keys.specs.Next.{next_key, NextEnds}
 use Rattle.keys.proofs.Chips.{map_sorted}

@@ -17,8 +17,7 @@ use Rattle.ring_log.specs.Answers.{Answer as Says}
 use Rattle.lent.specs.Area.{blocks_of, Sized, map_in, mark, lent_of, lent_to_start}
 use Rattle.start.specs.Started.{StartsBy, StartEnds}
 use Rattle.format.specs.Formatted.{FormatsBy, FormatEnds}
-use Rattle.lent.specs.declared.Answer.{Answer}
-use Rattle.lent.specs.declared.Answer.TheVariants.{Done, Refused}
+use Rattle.lent.specs.Ended.{Answer, Done, Refused}
 use Rattle.lent.proofs.Numbers.{sizes_hold, done≢refused}
 use Rattle.histories.specs.History.{off, History, begin}
 use Rattle.histories.proofs.Histories.{sized_after}

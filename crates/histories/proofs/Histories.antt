@@ -26,8 +26,7 @@ use Rattle.lent.specs.Area.{blocks_of, Sized, map_in, mark, passed, lent_of, len
 use Rattle.fetch.specs.Fetched.{Gets, Counts, GetEnds, CountEnds}
 use Rattle.change.specs.Changed.{ChangesBy, Ended, PutEnds, DeleteEnds, Came}
 use Rattle.start.specs.Started.{StartsBy, StartEnds}
-use Rattle.lent.specs.declared.Answer.{Answer}
-use Rattle.lent.specs.declared.Answer.TheVariants.{Done}
+use Rattle.lent.specs.Ended.{Answer, Done}
 use Rattle.lent.proofs.Held.{map_rows}
 use Rattle.lent.proofs.Numbers.{sizes_hold, sizes_sized}
 use Rattle.keys.specs.Next.{next_answer, NextEnds}

@@ -14,7 +14,7 @@ use Rattle.ring_log.specs.Answers.{Answer as Says}
 use Rattle.ring_log.proofs.MapLaws.{some≢none, lookup_there, alter_cases}
 use Rattle.ring_log.proofs.AnswerLaws.{put_done, delete_done}
 use Rattle.lent.specs.Area.{map_in}
-use Rattle.lent.specs.declared.Answer.{Answer}
+use Rattle.lent.specs.Ended.{Answer}
 use Rattle.keys.specs.Walk.{Has}
 use Rattle.histories.specs.History as history
 use Rattle.histories.specs.History.{Phase, History, Fresh, begin, found, dark, lend, start, delete, get, count, next, lent_on, ToldBy, Tells}

@@ -29,8 +29,7 @@ use Rattle.ring_log.proofs.TimelyCall.{Left, call_timely}
 use Rattle.lent.specs.Area.{blocks_of, map_in, passed, lent_of, lent_to_start, Holds, Store}
 use Rattle.change.specs.Changed.{ChangesBy, Ended, PutEnds, DeleteEnds, Came}
 use Rattle.start.specs.Started.{StartsBy, StartEnds}
-use Rattle.lent.specs.declared.Answer.{Answer}
-use Rattle.lent.specs.declared.Answer.TheVariants.{Done, Refused}
+use Rattle.lent.specs.Ended.{Answer, Done, Refused}
 use Rattle.histories.specs.History.{Phase, off, on, started, failed, History, reached, clean, late_after, late, begin, found, dark, lend, start, put, delete, get, count}
 use Rattle.histories.specs.History.{next as next_step}
 use Rattle.histories.proofs.Histories.{Tends, tends_kept, lent_on_lem, blocks_are, few_table, goes_dark, lit_on, lit_before, lives}

@@ -3,7 +3,7 @@ use mathlib.Core.List.{List, []}
 use Prim.Native.Nat.{ℕ, ◌≤◌}
 use Rattle.chip.specs.Play.{Op}
 use Rattle.ring_log.specs.Key.{Key}
-use Rattle.lent.specs.declared.Answer.{Answer}
+use Rattle.lent.specs.Ended.{Answer}
 use Rattle.histories.specs.History.{Phase, on, History}
 use Rattle.histories.specs.Theorems.{Ever, Calls, Formatted}
 use Rattle.histories.specs.Walks.{Call, Walks, Given, Answers}

@@ -8,8 +8,7 @@ use lib.ListN.{length}
 use Rattle.ring_log.specs.Key.{Key, ◌≺◌}
 use Rattle.ring_log.specs.Map.{Map, Sorted, keys}
 use Rattle.lent.specs.Area.{map_in, lent_of}
-use Rattle.lent.specs.declared.Answer.{Answer}
-use Rattle.lent.specs.declared.Answer.TheVariants.{Done, Refused}
+use Rattle.lent.specs.Ended.{Answer, Done, Refused}
 use Rattle.keys.specs.Walk.{Walk, Has, Each, times, Rise, Had}
 use Rattle.keys.specs.Walk as walk
 use Rattle.keys.proofs.Chips.{map_sorted, map_key}

@@ -14,8 +14,7 @@ use Rattle.lent.specs.Area.{blocks_of, Sized, map_in, passed, Store}
 use Rattle.fetch.specs.Fetched.{Gets, Counts, GetEnds, CountEnds}
 use Rattle.change.specs.Changed.{PutEnds, DeleteEnds}
 use Rattle.start.specs.Started.{StartEnds}
-use Rattle.lent.specs.declared.Answer.{Answer}
-use Rattle.lent.specs.declared.Answer.TheVariants.{Done, Refused}
+use Rattle.lent.specs.Ended.{Answer, Done, Refused}
 use Rattle.keys.specs.Next.{next_answer, NextEnds}
 
 -- the store is off: no start has succeeded since the beginning or since memory was lost with the power; or it is on, with a fault script (its number and its

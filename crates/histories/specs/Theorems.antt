@@ -12,8 +12,7 @@ use Rattle.change.specs.Changed.{PutEnds, DeleteEnds}
 use Rattle.fetch.specs.Fetched.{GetEnds, CountEnds}
 use Rattle.start.specs.Started.{StartEnds}
 use Rattle.format.specs.Formatted.{FormatEnds}
-use Rattle.lent.specs.declared.Answer.{Answer}
-use Rattle.lent.specs.declared.Answer.TheVariants.{Done, Refused}
+use Rattle.lent.specs.Ended.{Answer, Done, Refused}
 use Rattle.keys.specs.Next.{NextEnds}
 use Rattle.histories.specs.History.{Phase, off, on, History, Fresh, late, Tells, WasPut}
 

@@ -4,8 +4,7 @@ use Rattle.chip.specs.Play.{Op}
 use Rattle.ring_log.specs.Key.{Key}
 use Rattle.ring_log.specs.Map.{Map, keys}
 use Rattle.lent.specs.Area.{map_in}
-use Rattle.lent.specs.declared.Answer.{Answer}
-use Rattle.lent.specs.declared.Answer.TheVariants.{Done, Refused}
+use Rattle.lent.specs.Ended.{Answer, Done, Refused}
 use Rattle.keys.specs.Next.{NextEnds}
 use Rattle.keys.specs.Walk.{Has, Each, times, Rise, Had}
 use Rattle.histories.specs.History.{on, History}
