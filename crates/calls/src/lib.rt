@@ -139,3 +139,21 @@ pub fn noise(which: Noise) -> [u8; 4096]
 {
     which.bytes(&record::encode(false, b"a", b"2"))
 }
+
+#[cfg(test)]
+mod tests {
+    use super::*;
+    use std::test::Fail;
+
+    #[test]
+    fn lines_are_read(rt: HostRuntime) -> Result<(), Fail> {
+        let alloc = rt.alloc();
+        let read = Call::read(alloc, b"puts a*3 12")?;
+        assert!(rt;
+            matches!(&read, Some(Call::Puts(key, 12)) if key.as_slice() == b"aaa".as_slice())
+        );
+        let none = Call::read(alloc, b"get a 3")?;
+        assert!(rt; none.is_none());
+        Ok(())
+    }
+}
