@@ -58,6 +58,10 @@ refused 'a pair that is stored' "$unknown" $module "$(blocks '  store { ptr, i64
 refused 'a pair of two pointers' "$unknown" $module "$(blocks '  %x = load { ptr, ptr }, ptr %y, align 8')"
 refused 'a pointer that is compared' "$unknown" $module "$(blocks '  %x = icmp eq ptr %a0, %a2')"
 refused 'inline assembly' "$unknown" $module "$(blocks '  call void asm sideeffect "nop", ""()')"
+near='  %x = ptrtoaddr ptr %a0 to i64\n  %y = ptrtoaddr ptr %a2 to i64\n  %z = sub i64 %x, %y\n' # the distance of two addresses
+refused 'an address' "$unknown" $module "$(blocks '  %x = ptrtoaddr ptr %a0 to i64')"
+refused 'a distance that is compared with another sign' "$unknown" $module "$(blocks "$near  %w = icmp slt i64 %z, %a1")"
+refused 'a distance that is used again' "$unknown" $module "$(blocks "$near  %w = icmp ult i64 %z, %a1\n  %v = add i64 %z, 1")"
 refused 'global data' "$unknown" $module 's/^source_filename.*/&\n@g = global i64 0/'
 refused 'a datum of one byte' "$unknown" $module 's/^source_filename.*/&\n@static.9 = private unnamed_addr constant [1 x i8] zeroinitializer, align 1/'
 refused 'a foreign function' "$unknown" $module 's/^source_filename.*/&\ndeclare void @exit(i32)/'
@@ -91,9 +95,16 @@ refused 'a part of a pointer filled with zeros' "$mixed" $module "$(blocks "$sli
 refused 'a pointer filled with ones' "$mixed" $module "$(blocks "$slice  call void @llvm.memset.p0.i64(ptr %x, i8 1, i64 8, i1 false)")"
 refused 'a part of a pointer copied' 'a part of a pointer' $module \
   "$(blocks "$slice  %z = alloca [16 x i8], align 8\n  call void @llvm.memmove.p0.p0.i64(ptr %z, ptr %x, i64 4, i1 false)")"
-refused 'the address of a place with a pointer, kept' 'is kept' $module "$(blocks "$slice  %y = alloca ptr, align 8\n  store ptr %x, ptr %y, align 8")"
-refused 'the address of a place with a pointer, answered' 'is kept' $module "$(blocks "$slice  %y = call ptr @planted(ptr %x)")
+kept='  %y = alloca ptr, align 8\n  store ptr %x, ptr %y, align 8\n  %z = load ptr, ptr %y, align 8\n' # the address of the place x, kept in y and taken from there
+refused 'the address of a place with a pointer, kept' "$mixed" $module "$(blocks "$slice$kept  %w = load i64, ptr %z, align 8")"
+refused 'the address of a place with a pointer, answered' "$mixed" $module "$(blocks "$slice  %y = call ptr @planted(ptr %x)\n  %z = load i64, ptr %y, align 8")
   $(planted 'ptr @planted(ptr noundef %a0)' '  ret ptr %a0')"
+passes 'the address of a place with a pointer, by which the pointer is taken' $module "$(blocks "$slice$kept  %w = load ptr, ptr %z, align 8")"
+refused 'two places by one function, of which one has a number there' "$mixed" $module \
+  "$(blocks "$slice  %z = alloca i64, align 8\n  store i64 1, ptr %z, align 8\n  %v = call ptr @planted(ptr %x)\n  %w = call ptr @planted(ptr %z)")
+  $(planted 'ptr @planted(ptr noundef %a0)' '  %x = load ptr, ptr %a0, align 8\n  ret ptr %x')"
+refused 'a function that calls itself' 'calls itself' $module "$(blocks '  call void @planted(ptr %a2)')
+  $(planted 'void @planted(ptr noundef %a0)' '  call void @planted(ptr %a0)\n  ret void')"
 refused 'a pointer stored in the work area' 'no place for one' $module "$(blocks '  store ptr %a0, ptr %a2, align 8')"
 refused 'a pointer stored in the work area by way of a place' 'no place for one' $module \
   "$(blocks "$slice  %y = load ptr, ptr %x, align 8\n  store ptr %a0, ptr %y, align 8")"
@@ -118,7 +129,7 @@ passes 'floatstore.h: a comment more' include/floatstore.h '/^int64_t floatstore
 known='with the parameters that are known here'
 looks='looks through the pointer'
 refused 'read has another name' "$known" $module 's/@"chip::read"/@"chip::look"/'
-refused 'write has another parameter' "$known" $module 's/^(define internal void @"chip::write"\(.*i64 noundef %a7)\)/\1, ptr noundef %a8)/'
+refused 'write has another parameter' "$known" $module 's/^(define internal void @"chip::write"\(.*ptr noundef %a5)\)/\1, ptr noundef %a6)/'
 refused 'erase answers something' "$known" $module 's/^define internal void @"chip::erase"/define internal noundef i64 @"chip::erase"/'
 refused 'erase is exported' 'no i64' $module 's/^define internal void @"chip::erase"/define void @"chip::erase"/'
 refused 'erase is never called' 'called 0 times' $module 's/call void @"chip::erase"\(.*/ret void/'
@@ -132,18 +143,19 @@ refused 'a place within the chip' "$looks chip" $module "$(blocks '  %x = getele
 chips='  %x = alloca [16 x i8], align 8\n  store ptr %a0, ptr %x, align 8\n' # a place x with the chip
 refused 'the chip by way of a place' "$looks chip" $module "$(blocks "$chips  %y = load ptr, ptr %x, align 8\n  %z = load i8, ptr %y, align 1")"
 copied='  %y = alloca [16 x i8], align 8\n  call void @llvm.memmove.p0.p0.i64(ptr %y, ptr %x, i64 16, i1 false)\n  %z = load ptr, ptr %y, align 8'
-refused 'the chip by way of a copy of its slice' "$looks chip" $module "$(blocks "$chips$copied"'\n  call void @"page::fill"(ptr %z, i64 256, i64 254)')"
+refused 'the chip by way of a copy of its slice' "$looks chip" $module "$(blocks "$chips$copied"'\n  call void @"page::fill"(ptr %z, i64 254)')"
 refused 'the chip by way of an answer' "$looks chip" $module \
   "$(blocks '  %y = call { ptr, i64 } @planted(ptr %a0)\n  %z = extractvalue { ptr, i64 } %y, 0\n  %w = load i8, ptr %z, align 1')
   $(planted '{ ptr, i64 } @planted(ptr noundef %a0)' "$chips  %y = load { ptr, i64 }, ptr %x, align 8\n  ret { ptr, i64 } %y")"
-refused 'the chip is handed on as the work area' "$looks chip" $module 's/(call i32 @"lent::unready"\(ptr %\w+, i64 %\w+), ptr %\w+/\1, ptr %a0/'
+refused 'the chip is handed on as the work area' "$looks chip" $module 's/(call [^@]*@"lent::unready"\(ptr %\w+, i64 %\w+), ptr %\w+/\1, ptr %a0/'
 refused 'the work area is read as a chip' "$looks chip" $module "$(blocks '  call void @"chip::read"(ptr %a2, i64 %a3, i64 0, ptr %a2, i64 %a3)')"
 refused 'the chip is read into the chip' "$looks chip" $module "$(blocks '  call void @"chip::read"(ptr %a0, i64 %a1, i64 0, ptr %a0, i64 %a1)')"
-refused 'the noise is looked at' "$looks noise" $module "$(in_function opening::clear_spare '  %x = load i8, ptr %a5, align 1')"
+refused 'the noise is looked at' "$looks noise" $module "$(in_function chip::Chip::erase '  %x = getelementptr i8, ptr %a0, i64 24\n  %y = load ptr, ptr %x, align 8\n  %z = load i8, ptr %y, align 1')"
 refused 'erase is given something else for noise' "isn't always given the noise" $module \
-  's/^  call void @"chip::erase"\((.*), ptr %\w+, i64 (%\w+)\)$/  %x = alloca i8, align 1\n  call void @"chip::erase"(\1, ptr %x, i64 \2)/'
+  's/^  call void @"chip::erase"\((.*), ptr %\w+\)$/  %x = alloca i8, align 1\n  call void @"chip::erase"(\1, ptr %x)/'
 refused 'the noise is the chip' 'come to the same place' $module \
-  "$(in_function opening::clear_spare '  call void @"chip::erase"(ptr %a5, i64 %a6, i64 0, ptr %a4, ptr %a5, i64 %a6)')"
+  "$(in_function chip::Chip::new '  call void @"chip::erase"(ptr %a4, i64 %a2, i64 0, ptr %a3, ptr %a4)')"
+refused 'the noise where the chip stands in what a call is lent' 'come to the same place' $module "$(in_function chip::Chip::new '  store ptr %a4, ptr %a0, align 8')"
 passes 'the chip is handed on by way of a place, its length beside it' $module \
   "$(blocks "$chips  %y = getelementptr i8, ptr %x, i64 8\n  store i64 %a1, ptr %y, align 8\n  %z = load { ptr, i64 }, ptr %x, align 8\n  %w = extractvalue { ptr, i64 } %z, 0")"
 echo "refused: $n modules and headers, each by one line; $sisters harmless sisters pass"
