@@ -40,7 +40,8 @@ fn settle(work: &mut [u32], change: Result<Made, Unmade>) -> Result<usize, Refus
     }
 }
 
-// The body of put and delete, once all is tested.
+// The body of put and delete, once all is tested. (A word of the area becomes an index by `as`, here and elsewhere: there is no From<u32> for usize, and TryFrom
+// would have a failure that can't happen. `note` is a bool as in `record::encode`.)
 fn run_change(
     chip: &mut Chip<'_>,
     work: &mut [u32],

@@ -1,5 +1,6 @@
 // The store for C (include/floatstore.h): the six calls, the next key, and a start that says what it saw, with answers as numbers. At least 0: done; below: minus the number of the refusal.
-// Each contract is that of the store's call, of the answer whose number is answered; specs/Numbers.antt says which number that is.
+// Each contract is that of the store's call, of the answer whose number is answered; specs/Numbers.antt says which number that is. (That the functions differ in
+// what they call alone is the C interface: it has a name for each.)
 #![tactic(auto)]
 
 ghost use Rattle.std.specs.Prelude.{◌≡◌, pos, neg_ℤ};
