@@ -329,8 +329,10 @@ def check_places(functions):
     lent = {pointers.object((f.name, name)) for f in functions if not f.internal for kind, name in f.parameters if kind == "ptr"}
     for p, on, n, is_pointer, why in taken:
         place, far = pointers.find(p)
-        if is_pointer and (place in lent or far is None):
+        if is_pointer and place in lent:
             refuse(f"a pointer stands where the module has no place for one: line {why[0]}, {why[2]}")
+        if is_pointer and far is None:  # which byte of it some line takes isn't known
+            refuse(f"{mixed}: line {why[0]}, {why[2]}")
         if n == 0 or n == "zeros" and far is not None:
             continue
         if far is None or n in (None, "zeros"):
