@@ -102,7 +102,7 @@ fn make(step: &Step, bench: &mut Bench) -> Result<usize, Refusal> {
     }
 }
 
-// Whether the call is answered as it should be: it is done, but for a delete that was made already.
+// Whether the call is answered as it should be: it is done, but for a delete that was made already. (`made` is a truth value, and no kind.)
 fn is_answered(step: &Step, made: bool, bench: &mut Bench) -> bool {
     match make(step, bench) {
         Ok(_) => !made || !step.value.is_empty(),

@@ -86,7 +86,7 @@ impl Slot {
     }
 }
 
-// 64 numbers for each part.
+// 64 numbers for each part. (An array, since the rows of a report name its places by number.)
 #[derive(Drop)]
 pub struct Tally {
     pub numbers: [u64; 512],

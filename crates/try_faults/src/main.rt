@@ -98,7 +98,8 @@ fn lay_out(chip: &mut Chip<'_>) -> Result<(), Halt>
     chip.write(17, &value(b"other"))
 }
 
-// Such a chip, of two blocks. The power stays on, so that nothing halts.
+// Such a chip, of two blocks. The power stays on, so that nothing halts. (try_pages has a twin of it, of another size and with another writer: one function of
+// both would take a const and a closure for four lines.)
 fn set_up() -> [u8; 8192] {
     let mut bytes = [0u8; 8192];
     let mut fuse = 9;

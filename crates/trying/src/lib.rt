@@ -78,7 +78,8 @@ impl fmt::Display for Says {
 
 // ---- a report of 512 numbers, 64 of each kind. Its rows are text, a row a line: the kind, the slot of the first number, how many numbers, and the name.
 
-// KIND SLOT N NAME, the name from column 8 on
+// KIND SLOT N NAME, the name from column 8 on. (The tally is an array with no length beside it, since a row may run on into the next kind; a number becomes an
+// index by `as`, which the check proves whole, where TryFrom would have a failure that can't happen.)
 fn print_row(rt: &impl Print, row: &[u8], tally: &[u64; 512]) -> io::Result<()> {
     let Some(name) = row.get(8..) else {
         return Ok(());

@@ -44,7 +44,7 @@ impl Noise {
         }
     }
 
-    // The noise, by the page.
+    // The noise, by the page. (No `array::from_fn`: that each byte is the one it should be didn't prove.)
     pub fn bytes(self, page: &Page) -> [u8; 4096]
         ensures { EachIndex result (λ i. slice_index result i ≡ noise_byte self page.now i) }
     {

@@ -14,7 +14,7 @@ fn without_end(line: &[u8]) -> &[u8] {
     }
 }
 
-// The lines of a text, without their ends.
+// The lines of a text, without their ends. (No `collect`: that there are no more of them than bytes didn't prove.)
 pub fn lines(alloc: Global, text: &[u8]) -> Result<Vec<&[u8]>, AllocError>
     ensures { IfOk result (λ lines. vec_len lines ≤ length text.now) }
 {
@@ -30,7 +30,7 @@ pub fn word(line: &[u8], k: usize) -> &[u8] {
     line.split(|b| *b == b' ').nth(k).unwrap_or(&[])
 }
 
-// A digit's number; something for any other byte.
+// A digit's number; something for any other byte, so that the programs do with any script what they did: std's have none there.
 fn digit(b: u8) -> u64
     ensures { result < 16 }
 {
