@@ -199,7 +199,7 @@ sees 'the chip is read after a failure' x86-64 failing.c $driver 's/if \(!\*c->f
 sees 'the chip is written after a failed read' x86-64 failing.c $driver 's/^    if \(\*c->failed\) \*fuse = 0;/    (void)c;/'
 sees 'the area is not marked' x86-64 failing.c $driver 's/work\[0\] = 2;/(void)work;/'
 sees "the module's own answer after a failure" x86-64 failing.c $driver 's/^    return -FLOATSTORE_POWER_GONE;/    return answer;/'
-sees 'lengths on a page that are not cut' x86-64 wild.c $module '/^define .*@"record::at_most"/,/^}/s/icmp ult i64 %r[0-9]+, %a1/icmp ult i64 0, 1/'
+sees 'lengths on a page that are not cut' x86-64 wild.c $module '/^define .*@"record::(key_on|value_length)"/,/^}/s/(@"core::int::usize::min"\(i64 %r[0-9]+), i64 [^)]*\)/\1, i64 255)/'
 sees 'lengths that are not widened' cortex-m4 history.c $driver 's/uint64_t (chip_len|work_len|key_len|value_len|buffer_len)/uint32_t \1/g'
 echo "seen: $seen planted faults; $n wrong words answered by a line"
 
