@@ -24,8 +24,8 @@ LINES = {
     '4a casts': r' as ' + NUMBER + r'\b',
     '4b functions that print or convert one value':
         r'^ *(pub )?fn (print_\w+|text|text_if|number|entry|byte|word|wide|flip|hold|minus|lesser|digit|hex|refusal|amount)\b',
-    '5a the length of a page or a noise in a contract': r'(requires|ensures).*length (page|noise|new)\.(now|old) ≡',
-    '5b a ring and its ranges in a contract': r'requires.*(Sane b|4 ≤ b)',
+    '5a the length of a page or a noise in a contract': r'(requires|ensures).*length (page|(chip\.old\.)?noise|new)\.(now|old) ≡',
+    '5b a ring and its ranges in a contract': r'requires.*(Sane |4 ≤ )([a-z]+\.)*(b|blocks)\b',
     '6a buffers with a length beside them': r'\[u8; (trying::)?LONGEST\]|\[u64; 512\]',
     '7 a switch by number': r'\bmatch (which|what|style|kind|i|r)\b|if (which|kind) (==|<) ',
 }

@@ -1,5 +1,6 @@
 // One record more (document 01, section 3): the key is looked for, room is made, the record written at the end of the head, and the index brought up to it.
 // What it answers is said in specs/Steps.antt; put and delete, and what they test first, are in the crate `change`.
+// The index is a slice that is lent, and longer than its n entries (no heap); `note` is a bool as in `record::encode`.
 #![tactic(auto)]
 
 ghost use Rattle.std.specs.Prelude.{◌≡◌, ◌+◌, ◌*◌, ◌≤◌, ◌<◌, length, take};
@@ -106,7 +107,8 @@ fn denied(found: Result<usize, usize>, note: bool, n: usize, b: usize) -> Result
     Ok(())
 }
 
-// A value is put, or a note of a deletion. The first n words of the index are its entries. (`note` is a bool as in `record::encode`; a `Place` begins in `tidy`.)
+// A value is put, or a note of a deletion. The first n words of the index are its entries: the slice is lent (no heap) and longer, as a put needs it. (`note` is a
+// bool as in `record::encode`; a `Place` begins in `tidy`.)
 pub fn make_change(
     chip: &mut Chip<'_>,
     index: &mut [u32],

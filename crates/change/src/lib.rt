@@ -80,7 +80,7 @@ fn put_refusal(key: &[u8], value: &[u8]) -> Result<(), Refusal>
     Ok(())
 }
 
-// The key has the value from now on, whether or not it had one. Its bytes must be such as can be printed.
+// The key has the value from now on, whether or not it had one. Its bytes must be such as can be printed. (Lent one by one: the C interface.)
 pub fn put(
     chip: &mut [u8],
     work: &mut [u32],
@@ -95,7 +95,7 @@ pub fn put(
     run_change(&mut Chip::new(chip, fuse, noise), work, false, key, value)
 }
 
-// The key has no value any more. Any key is taken, so that old ones can be removed.
+// The key has no value any more. Any key is taken, so that old ones can be removed. (Lent one by one: the C interface.)
 pub fn delete(
     chip: &mut [u8],
     work: &mut [u32],

@@ -4,7 +4,8 @@ use Rattle.page.specs.Page.{all}
 use Rattle.ring_log.specs.Ring.{most_blocks}
 use Rattle.chip.specs.declared.Halt.{Halt}
 
--- a chip of B blocks with the head h, an index of n entries, and noise: ranges alone, which the public calls test
+-- a chip of B blocks with the head h, an index of n entries, and noise: ranges alone, which the public calls test. (A clause, and no invariant of a type: the
+-- public functions that ask it stand in docs/STATEMENTS.md, and a type would ask more of who calls them)
 pub record Sane (B : ℕ) (c ix noise : List ℕ) (n h : ℕ) : Type 0 where
   pub some_blocks : 4 ≤ B
   pub few_blocks : B ≤ most_blocks

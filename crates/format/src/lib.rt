@@ -25,7 +25,7 @@ fn erase_all(chip: &mut Chip, b: usize) -> Result<(), Halt>
     Ok(())
 }
 
-// Erases every block; the map is empty. A start must follow it.
+// Erases every block; the map is empty. A start must follow it. (Lent one by one: the C interface.)
 #[tactic(auto, using(crate::proofs::Formats::did_still, crate::proofs::Formats::format_5, crate::proofs::Formats::format_off, crate::proofs::Formats::format_gone))]
 pub fn format(
     chip: &mut [u8],

@@ -26,7 +26,8 @@ pub const CURSOR: usize = 4;
 // Here the index begins.
 pub const INDEX: usize = 16;
 
-// The mark of an area that no start has made ready since a format, or since a start that was refused.
+// The mark of an area that no start has made ready since a format, or since a start that was refused. (The marks are numbers and no enum: a word of an area that
+// is lent may hold any.)
 pub const UNREADY: u32 = 0;
 
 // The mark of an area that a start made ready.
@@ -134,6 +135,18 @@ pub fn first_refusal(
 {
     unready(chip, work, fuse)?;
     arguments
+}
+
+// The same of any number that the arguments' refusal has, and answered as a number: so it was, as `refusal`, before refusals were an enum.
+#[tactic(auto, using(crate::proofs::Numbers::tested_first, crate::proofs::Numbers::tested_next, crate::proofs::Numbers::refusal_some))]
+pub fn first_number(chip: &[u8], work: &[u32], fuse: &u64, n: u32) -> u32
+    ensures tested { Tested chip.now fuse.now work.now n result }
+    ensures last { result ≡ 0 → n ≡ 0 }
+{
+    match unready(chip, work, fuse) {
+        Ok(()) => n,
+        Err(refusal) => refusal.number(),
+    }
 }
 
 // Refusal 1 of any key: its length is 0 or above 16.

@@ -104,7 +104,7 @@ fn fewer(left: usize, passed: usize) -> usize
     left.saturating_sub(made)
 }
 
-// The head is full: the next block is opened, until one has room; as often as there are blocks but two, at most.
+// The head is full: the next block is opened, until one has room; as often as there are blocks but two, at most. (It is given no `Place`: there is no next one.)
 pub fn make_room(
     chip: &mut Chip<'_>,
     index: &mut [u32],

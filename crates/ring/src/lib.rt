@@ -25,7 +25,8 @@ pub struct Seals {
     pub count: usize,
 }
 
-// The head, as far as it was found: block x, if it isn't sealed while the one before it is and no such block was passed.
+// The head, as far as it was found: block x, if it isn't sealed while the one before it is and no such block was passed. (0 for none yet, as `head_by` of
+// specs/Seals.antt has it: if none comes, the head is block 0.)
 fn head_by(head: usize, before: bool, here: bool, x: usize) -> usize
     ensures { result ≡ head_by head before here x }
 {
@@ -36,7 +37,7 @@ fn head_by(head: usize, before: bool, here: bool, x: usize) -> usize
     }
 }
 
-// Each seal is looked at once.
+// Each seal is looked at once. (The number of blocks alone, and no `Head`: there is none yet.)
 pub fn look_at_seals(chip: &[u8], b: usize) -> Seals
     requires { (4 ≤ b) × (b ≤ most_blocks) × (length chip.now ≡ 4096 * b) }
     ensures { SealsSay b (chip_of chip.now) result }

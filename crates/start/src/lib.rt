@@ -16,7 +16,7 @@ use lent::{Refusal, Standing};
 use record::Kind;
 use ring_log::Head;
 
-// What page p says is replayed. Answers the number of keys.
+// What page p says is replayed. Answers the number of keys, which stands beside a slice that is lent (no heap) and longer.
 fn replay_page(chip: &[u8], index: &mut [u32], n: usize, p: usize) -> usize
     requires { (256 * p + 256 ≤ length chip.now) × (p < 16 * most_blocks) × (n < length index.old) }
     ensures within { result ≤ n + 1 }

@@ -27,7 +27,7 @@ fn sweep_on(chip: &mut Chip<'_>, index: &mut [u32], place: Place) -> Result<Plac
     sweep::sweep(chip, index, place, 14)
 }
 
-// The head is full: room is made, and the rest of the looks; a place is left for the record.
+// The head is full: room is made, and the rest of the looks; a place is left for the record. (It is given no `Place`: there is no next one.)
 fn make_more(
     chip: &mut Chip<'_>,
     index: &mut [u32],
