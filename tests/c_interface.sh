@@ -1,10 +1,15 @@
 #!/bin/sh
 # The C interface: its calls from C on both sides of each limit; the short calls of floatstore_fs.h; the page of firmware, which must write what is stored
-# beside it. The headers compile without a warning as C99 and later and as C++, each alone; and what FS_INIT must not take does not compile.
+# beside it. The library asks C for memcpy and memset and for nothing else. The headers compile without a warning as C99 and later and as C++, each alone; and
+# what FS_INIT must not take does not compile.
 cd "$(dirname "$0")/.." || exit 1
 tools/cc.sh target/c/calls tests/calls.c && tools/run.sh target/c/calls || exit 1
 tools/cc.sh target/c/fs tests/fs.c && tools/run.sh target/c/fs || exit 1
 tools/cc.sh target/c/firmware examples/firmware.c && tools/run.sh target/c/firmware | diff - examples/firmware.stdout || exit 1
+
+tools/need.sh nm binutils || exit 1
+asked=$(nm -u target/staticlib/libfloatstore.a | sed -n 's/^ *U //p' | sort -u | tr '\n' ' ')
+[ "$asked" = 'memcpy memset ' ] || { echo "the library asks C for $asked(docs/C.md: for memcpy and memset)"; exit 1; }
 
 tools/need.sh gcc gcc libc6-dev && tools/need.sh g++ g++ || exit 1
 strict='-fsyntax-only -Wall -Wextra -pedantic -Werror -Iinclude'

@@ -15,6 +15,7 @@ pub fn wrong(chip: &mut [u8], b: usize, fuse: &mut u64, noise: &[u8; 4096], work
     $1
 }
 use chip::look_at;
+use chip::{Chip, Halt};
 #[unsafe(no_mangle)]
 fn spoil(x: &mut [u8]) {}
 fn wear(c: &mut [u8], n: &mut u64) {}
@@ -42,12 +43,10 @@ fn carry<'a>(chip: &'a mut Chip<'_>, p: usize) {
 }
 fn seek(chip: &[u8], p: usize) {}
 fn call(chip: &mut [u8], fuse: &mut u64, noise: &[u8; 4096]) {
-    if *fuse == 0 || noise_of(1) {
+    if (*fuse == 0) || noise_of(1) {
         return;
     }
     carry(&mut Chip::new(chip, fuse, noise), chip.bytes().len());
-    let mut chip = Chip::new(chip, fuse, noise);
-    carry(&mut chip, 0);
 }
 END
   python3 "$copy/tests/one_door.py" | grep '^crates/planted/src/lib.rt:'
@@ -111,27 +110,85 @@ let other = &mut Chip::new(chip, fuse, noise);
 if *fuse == 0 + 3 || true { return 0; }
 let x = chip.bytes().first();
 let chip = &mut chip;
+let mut chip = Chip::new(chip, fuse, noise);
+carry(&mut chip, 0);
+let mut chip = Chip::new(chip, fuse, noise).erase(0);
+(&mut Chip::new(chip, fuse, noise)).erase(0);
+if *fuse == 0 || work[0] == 2 { return 0; }
+fn once_more(c: &mut Chip<'_>) { let d = c; let _ = d.erase(0); }
+fn once_more(c: &mut Chip, x: usize) { c.erase(x); c.erase(x); }
+fn once_more(c: &mut Chip<'_>) {}
+fn lend(chip: Chip<'_>) {}
+fn lend(chip: &Chip<'_>) {}
+struct Kept<'a> { c: &'a mut Chip<'a> }
+type Other<'a> = Chip<'a>; let x = Other::bytes(c)[0];
+let x = <Chip<'_>>::bytes(c)[0];
+Chip::erase(chip, 0);
+let _ = d.erase(0);
 END
 rm -r "$copy/crates/planted"
-# a fourth function of the crate chip that looks at the chip or changes something; each is found in that crate
-door=$copy/crates/chip/src/lib.rt
-while IFS= read -r fault; do
+# the same in the crate chip: in a method of Chip, before what it does with the three; beside the methods; or at the end of the file
+door=crates/chip/src/lib.rt
+# lay PLACE FAULT: the fault laid there, in a line of its own; the number of that line
+lay() {
+  case $1 in
+  erase | write) at="        $1(self.bytes, " ;;
+  new) at='        Chip {' ;;
+  bytes) at='        self.bytes' ;;
+  beside) at='    // Erases block b.' ;;
+  end) at= ;;
+  esac
+  awk -v at="$at" -v fault="$2" 'at != "" && index($0, at) == 1 { print fault } { print } END { if (at == "") print fault }' $door >"$copy/$door"
+  grep -nxF "$2" "$copy/$door" | cut -d : -f 1
+}
+while read -r place fault; do
   n=$((n + 1))
-  { cat crates/chip/src/lib.rt; echo "$fault"; } >"$door"
-  if ! python3 "$copy/tests/one_door.py" | grep -q '^crates/chip'; then
-    echo "not found in the crate chip: $fault"
+  line=$(lay "$place" "$fault")
+  if ! python3 "$copy/tests/one_door.py" | grep "^$door:$line: \|^crates/chip: the public " >/dev/null; then
+    echo "not found in the crate chip: $place $fault"
     exit 1
   fi
 done <<'END'
-pub fn peek(chip: &[u8]) -> u8 { chip[0] }
-fn peek(chip: &[u8], p: usize) -> &[u8] { &chip[p..p + 1] }
-pub fn clear_all(to: &mut [u8]) { clear(to); }
-fn put_back(fuse: &mut u64) { *fuse = 5; }
-fn first(c: &Chip<'_>) -> u8 { c.bytes[0] }
-pub fn again(c: &mut Chip<'_>) { erase(c.bytes, 0, c.fuse, c.noise); }
-impl Chip<'_> { pub fn first(&self) -> u8 { self.bytes[0] } }
+end pub fn peek(chip: &[u8]) -> u8 { chip[0] }
+end fn peek(chip: &[u8], p: usize) -> &[u8] { &chip[p..p + 1] }
+end pub fn clear_all(to: &mut [u8]) { clear(to); }
+end fn put_back(fuse: &mut u64) { *fuse = 5; }
+end fn first(c: &Chip<'_>) -> u8 { c.bytes[0] }
+end pub fn again(c: &mut Chip<'_>) { erase(c.bytes, 0, c.fuse, c.noise); }
+end impl Chip<'_> { pub fn first(&self) -> u8 { self.bytes[0] } }
+new *fuse = 5;
+new chip[0] = 0;
+bytes let x = self.bytes[0];
+erase let f = *self.fuse; erase(self.bytes, b, self.fuse, self.noise); *self.fuse = f;
+erase if 1000000 < *self.fuse { erase(self.bytes, b, self.fuse, self.noise); return self.lit(); }
+erase if *self.fuse == 3 { return self.lit(); }
+erase if self.noise[0] == 1 { return self.lit(); }
+erase let x = self.bytes[0]; self.bytes[0] = 0; self.bytes[0] = x;
+erase let c = self; c.bytes()[0]; c.erase(b);
+erase let c = self; c.bytes[0] = 0;
+erase let Chip { bytes, .. } = self; bytes[0] = bytes[0];
+erase let Self { bytes, .. } = self; bytes[0] = bytes[0];
+erase spoil(self.bytes);
+erase self.erase(b);
+erase if self.bytes()[0] == 255 { return self.lit(); }
+write if self.bytes[256 * p] != 255 || !blank_at(self.bytes(), p) { return Err(Halt::Dirty); }
+write let f = *self.fuse; write(self.bytes, p, new, self.fuse, self.noise); *self.fuse = f; erase(self.bytes, p / 16, self.fuse, self.noise);
+write erase(self.bytes, p / 16, self.fuse, self.noise);
+beside fn spoil(&mut self) { let x = self.bytes[0]; self.bytes[0] = 0; self.bytes[0] = x; *self.fuse = *self.fuse; }
+beside fn first(&self) -> u8 { self.bytes[0] }
+beside fn part(&mut self) -> &mut [u8] { self.bytes }
+beside fn twice(&mut self) { erase(self.bytes, 0, self.fuse, self.noise); erase(self.bytes, 0, self.fuse, self.noise); }
+beside pub fn twice(&mut self) { let _ = self.lit(); }
+end impl Chip<'_> { fn peek(chip: &[u8]) -> u8 { chip[0] } } pub fn first(chip: &[u8]) -> u8 { Chip::peek(chip) }
+end impl Chip<'_> { fn left(fuse: &u64) -> u64 { *fuse } } pub fn fuse_left(fuse: &u64) -> u64 { Chip::left(fuse) }
+end impl Chip<'_> { fn take(fuse: &mut u64) { *fuse = 5; } } fn put_back(fuse: &mut u64) { Chip::take(fuse); }
+end impl Look for Halt { fn first(chip: &[u8]) -> u8 { chip[0] } }
+end fn again(chip: &mut [u8], b: usize, fuse: &mut u64, noise: &[u8; 4096]) { erase(chip, b, fuse, noise); }
 END
-{ cat crates/chip/src/lib.rt; echo 'pub fn first_at(chip: &[u8], p: usize) -> u8 { let page = page_at(chip, p); page[0] }'; } >"$door"
-python3 "$copy/tests/one_door.py" >/dev/null || { echo "a harmless function of the crate chip was refused"; exit 1; }
+for kind in 'pub fn first_at(chip: &[u8], p: usize) -> u8 { let page = page_at(chip, p); page[0] }' \
+  'impl Chip<'"'_"'> { fn first_at(&self, p: usize) -> u8 { if *self.fuse == 0 { return 0; } let page = page_at(self.bytes(), p); page[0] } }'; do
+  lay end "$kind" >/dev/null
+  python3 "$copy/tests/one_door.py" >/dev/null || { echo "a harmless function of the crate chip was refused: $kind"; exit 1; }
+done
 python3 tests/one_door.py || exit 1
-echo "found each of $n planted programs, and passed their harmless sister"
+echo "found each of $n planted programs, and passed their harmless sisters"

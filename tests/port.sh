@@ -1,11 +1,11 @@
 #!/bin/sh
 # The library for other processors (tools/port): on emulated boards, in both builds, a history of 100,000 calls with power failures gives the answers, the bytes
 # of the chip and the work area that it gives on x86-64 with the kit's own archive; a driver that fails, at each of its operations, is met (failing.c);
-# and one that reads something else each time does no harm (wild.c).
+# and one that reads something else each time does no harm (wild.c). Neither build asks for memmove (docs/PORT-OTHER.md says what they ask for).
 cd "$(dirname "$0")/.." || exit 1
 top=$PWD
 . tests/port/boards.inc
-need_boards || exit 1
+need_boards && tools/need.sh nm binutils || exit 1
 room=$(mktemp -d) || exit 1
 trap 'rm -rf "$room"' EXIT
 trap 'exit 130' INT TERM HUP
@@ -51,6 +51,7 @@ bad() {
 }
 for target in cortex-m4 cortex-m33 cortex-m0 rv32imac $own; do
   tools/port "$target" >/dev/null || exit 1
+  ! nm -u "target/port/$target"/*.a | grep memmove || { echo "$target: a build asks for memmove"; exit 1; }
   history "$target" simulated
   history "$target" driver -DDRIVER
   bad "$target" failing.c

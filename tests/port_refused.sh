@@ -56,12 +56,25 @@ refused "a place whose size LLVM computes" "$unknown" $module "$(tested '  %x = 
 refused 'a distance in words' "$unknown" $module "$(tested '  %x = getelementptr i32, ptr %a2, i64 1')"
 refused 'a pair that is stored' "$unknown" $module "$(tested '  store { ptr, i64 } %x, ptr %y, align 8')"
 refused 'a pair of two pointers' "$unknown" $module "$(tested '  %x = load { ptr, ptr }, ptr %y, align 8')"
+refused 'a slice taken as a pair of another alignment' "$unknown" $module \
+  "$(tested '  %x = alloca [16 x i8], align 8\n  store ptr %a2, ptr %x, align 8\n  %y = load { ptr, i64 }, ptr %x, align 1')"
+refused 'an enum taken as a pair of another alignment' "$unknown" $module \
+  "$(tested '  %x = alloca [16 x i8], align 8\n  %y = load { i8, i64 }, ptr %x, align 1')"
+passes 'a pair of two bytes' $module "$(tested '  %x = alloca [16 x i8], align 8\n  %y = load { i8, i8 }, ptr %x, align 1')"
 refused 'a pointer that is compared' "$unknown" $module "$(tested '  %x = icmp eq ptr %a0, %a2')"
 refused 'inline assembly' "$unknown" $module "$(tested '  call void asm sideeffect "nop", ""()')"
-near='  %x = ptrtoaddr ptr %a0 to i64\n  %y = ptrtoaddr ptr %a2 to i64\n  %z = sub i64 %x, %y\n' # the distance of two addresses
+# how far the address of p is from that of q; whether it is fewer bytes than .., and what is copied where it isn't: TO, ptr FROM, i64 HOW MANY
+near='  %p = alloca i64, align 8\n  %q = alloca i64, align 8\n  %x = ptrtoaddr ptr %p to i64\n  %y = ptrtoaddr ptr %q to i64\n  %z = sub i64 %x, %y\n'
+below="$near"'  %w = icmp ult i64 %z, %a1\n'
+copying() { printf '%s' "  br i1 %w, label %near, label %apart\\napart:\\n  call void @llvm.memmove.p0.p0.i64(ptr $1, i1 false)\\n  br label %near\\nnear:"; }
 refused 'an address' "$unknown" $module "$(tested '  %x = ptrtoaddr ptr %a0 to i64')"
-refused 'a distance that is compared with another sign' "$unknown" $module "$(tested "$near  %w = icmp slt i64 %z, %a1")"
-refused 'a distance that is used again' "$unknown" $module "$(tested "$near  %w = icmp ult i64 %z, %a1\n  %v = add i64 %z, 1")"
+refused 'a distance that is compared with another sign' "$unknown" $module "$(tested "$near  %w = icmp slt i64 %z, %a1\\n$(copying '%p, ptr %q, i64 %a1')")"
+refused 'a distance that is used again' "$unknown" $module "$(tested "$below$(copying '%p, ptr %q, i64 %a1')\\n  %v = add i64 %z, 1")"
+refused 'a distance whose comparison is used again' "$unknown" $module "$(tested "$below$(copying '%p, ptr %q, i64 %a1')\\n  %v = zext i1 %w to i8")"
+refused 'a distance that is compared where nothing is copied' "$unknown" $module "$(tested "$below  %v = add i64 %a1, 1")"
+refused 'a distance that is compared with another number than is copied' "$unknown" $module "$(tested "$below$(copying '%p, ptr %q, i64 %a3')")"
+refused 'a distance that is compared where the other way is copied' "$unknown" $module "$(tested "$below$(copying '%q, ptr %p, i64 %a1')")"
+passes 'a distance that is compared with how many bytes are copied' $module "$(tested "$below$(copying '%p, ptr %q, i64 %a1')")"
 refused 'global data' "$unknown" $module 's/^source_filename.*/&\n@g = global i64 0/'
 refused 'a datum of one byte' "$unknown" $module 's/^source_filename.*/&\n@static.9 = private unnamed_addr constant [1 x i8] zeroinitializer, align 1/'
 refused 'a foreign function' "$unknown" $module 's/^source_filename.*/&\ndeclare void @exit(i32)/'
@@ -92,14 +105,29 @@ refused 'a number taken as the pointer of a pair' "$mixed" $module \
 refused 'a pointer taken as the number of a pair' "$mixed" $module \
   "$(tested "$slice  %y = getelementptr i8, ptr %x, i64 8\n  store ptr %a2, ptr %y, align 8\n  %z = load { ptr, i64 }, ptr %x, align 8")"
 refused 'a part of a pointer filled with zeros' "$mixed" $module "$(tested "$slice  call void @llvm.memset.p0.i64(ptr %x, i8 0, i64 4, i1 false)")"
+fours='  %v = getelementptr i8, ptr %x, i64 4\n  call void @llvm.memset.p0.i64(ptr %v, i8 0, i64 8, i1 false)' # zeros from byte 4 of x to byte 11
+refused 'zeros that begin within a pointer' "$mixed" $module "$(tested "$slice$fours")"
+# behind FAR POINTER: a place x with the pointer so many bytes in
+behind() { printf '%s' "  %x = alloca [32 x i8], align 8\\n  %y = getelementptr i8, ptr %x, i64 $1\\n  store ptr $2, ptr %y, align 4\\n"; }
+refused 'zeros that end within a pointer' "$mixed" $module "$(tested "$(behind 8 %a2)$fours")"
+passes 'zeros that end before a pointer' $module "$(tested "$(behind 16 %a2)$fours")"
 refused 'a pointer filled with ones' "$mixed" $module "$(tested "$slice  call void @llvm.memset.p0.i64(ptr %x, i8 1, i64 8, i1 false)")"
 refused 'a part of a pointer copied' 'a part of a pointer' $module \
   "$(tested "$slice  %z = alloca [16 x i8], align 8\n  call void @llvm.memmove.p0.p0.i64(ptr %z, ptr %x, i64 4, i1 false)")"
+refused 'a part of a pointer copied to where one stands' 'a part of a pointer' $module \
+  "$(tested "$slice  %z = alloca [16 x i8], align 8\n  store ptr %a2, ptr %z, align 8\n  call void @llvm.memmove.p0.p0.i64(ptr %z, ptr %x, i64 4, i1 false)")"
+odd='a pointer where none begins'
+refused 'a pointer that begins 4 bytes in' "$odd" $module "$(tested "$(behind 4 %a2)")"
+passes 'a pointer that begins 8 bytes in' $module "$(tested "$(behind 8 %a2)")"
 kept='  %y = alloca ptr, align 8\n  store ptr %x, ptr %y, align 8\n  %z = load ptr, ptr %y, align 8\n' # the address of the place x, kept in y and taken from there
 refused 'the address of a place with a pointer, kept' "$mixed" $module "$(tested "$slice$kept  %w = load i64, ptr %z, align 8")"
 refused 'the address of a place with a pointer, answered' "$mixed" $module "$(tested "$slice  %y = call ptr @planted(ptr %x)\n  %z = load i64, ptr %y, align 8")
   $(planted 'ptr @planted(ptr noundef %a0)' '  ret ptr %a0')"
 passes 'the address of a place with a pointer, by which the pointer is taken' $module "$(tested "$slice$kept  %w = load ptr, ptr %z, align 8")"
+refused 'the address of a place with a pointer, kept, by which zeros begin within it' "$mixed" $module \
+  "$(tested "$slice$kept  %w = getelementptr i8, ptr %z, i64 4\n  call void @llvm.memset.p0.i64(ptr %w, i8 0, i64 8, i1 false)")"
+refused 'the address of a place of the size of a pointer, kept, by which 8 bytes are filled' 'a place of the size of a pointer' $module \
+  "$(tested "  %x = alloca ptr, align 8\n  store ptr %a2, ptr %x, align 8\n$kept  call void @llvm.memset.p0.i64(ptr %z, i8 0, i64 8, i1 false)")"
 refused 'two places by one function, of which one has a number there' "$mixed" $module \
   "$(tested "$slice  %z = alloca i64, align 8\n  store i64 1, ptr %z, align 8\n  %v = call ptr @planted(ptr %x)\n  %w = call ptr @planted(ptr %z)")
   $(planted 'ptr @planted(ptr noundef %a0)' '  %x = load ptr, ptr %a0, align 8\n  ret ptr %x')"
@@ -109,6 +137,22 @@ refused 'a pointer stored in the work area' 'no place for one' $module "$(tested
 refused 'a pointer stored in the work area by way of a place' 'no place for one' $module \
   "$(tested "$slice  %y = load ptr, ptr %x, align 8\n  store ptr %a0, ptr %y, align 8")"
 refused 'a pointer read from the work area' 'no place for one' $module "$(tested '  %x = load { ptr, i64 }, ptr %a2, align 8')"
+refused 'a pointer stored in the work area whose address it holds' 'no place for one' $module "$(tested "$slice  store ptr %x, ptr %a2, align 8")"
+refused 'a pointer copied to what is lent' 'no place for one' $module \
+  "$(tested "$slice  %y = getelementptr i8, ptr %a4, i64 8\n  call void @llvm.memmove.p0.p0.i64(ptr %y, ptr %x, i64 8, i1 false)")"
+into='\n  %y = load ptr, ptr %x, align 8\n  store ptr %a2, ptr %y, align 8'
+refused 'a pointer stored by a null pointer' 'no place for one' $module \
+  "$(tested '  %x = alloca [8 x i8], align 8\n  call void @llvm.memset.p0.i64(ptr %x, i8 0, i64 8, i1 false)'"$into")"
+refused 'a pointer stored at a datum of no byte' 'no place for one' $module \
+  "$(tested '  %x = alloca [8 x i8], align 8\n  store ptr @static.9, ptr %x, align 8'"$into")
+  s/^source_filename.*/&\\n@static.9 = private unnamed_addr constant [0 x i8] zeroinitializer, align 1/"
+own='  %x = alloca [8 x i8], align 8\n  store ptr %a0, ptr %x, align 8\n' # a place x with the pointer that the function is handed
+refused "a slice's pointer read as a number by a function that nothing calls" "$mixed" $module \
+  "$(planted 'i64 @planted(ptr noundef %a0)' "$own  %y = load i64, ptr %x, align 8\n  ret i64 %y")"
+refused 'a pointer read by a function that nothing calls, where it has no place' 'no place for one' $module \
+  "$(planted 'ptr @planted(ptr noundef %a0)' '  %x = load ptr, ptr %a0, align 8\n  ret ptr %x')"
+passes 'a function that nothing calls, with a place of its own' $module \
+  "$(planted 'ptr @planted(ptr noundef %a0)' "$own  %y = load ptr, ptr %x, align 8\n  ret ptr %y")"
 passes 'a place with a pointer and a number beside it' $module "$(tested "$slice  %z = getelementptr i8, ptr %x, i64 8\n  store i64 3, ptr %z, align 8")"
 passes 'a pair loaded from a place that was filled with zeros, and handed on' $module \
   "$(tested "$slice  call void @llvm.memset.p0.i64(ptr %x, i8 0, i64 16, i1 false)\n  %y = call { ptr, i64 } @planted(ptr %x)\n  %z = extractvalue { ptr, i64 } %y, 1")
@@ -144,6 +188,16 @@ chips='  %x = alloca [16 x i8], align 8\n  store ptr %a0, ptr %x, align 8\n' # a
 refused 'the chip by way of a place' "$looks chip" $module "$(tested "$chips  %y = load ptr, ptr %x, align 8\n  %z = load i8, ptr %y, align 1")"
 copied='  %y = alloca [16 x i8], align 8\n  call void @llvm.memmove.p0.p0.i64(ptr %y, ptr %x, i64 16, i1 false)\n  %z = load ptr, ptr %y, align 8'
 refused 'the chip by way of a copy of its slice' "$looks chip" $module "$(tested "$chips$copied"'\n  call void @"page::fill"(ptr %z, i64 254)')"
+# a place x with the chip 8 bytes in, and a place b; f and t are 4 bytes in them
+within="$(behind 8 %a0)"'  %b = alloca [32 x i8], align 8\n  %f = getelementptr i8, ptr %x, i64 4\n  %t = getelementptr i8, ptr %b, i64 4\n'
+moved() { printf '%s' "  call void @llvm.memmove.p0.p0.i64(ptr $1, i1 false)\\n  %u = getelementptr i8, ptr %b, i64 $2\\n  %z = load ptr, ptr %u, align 4"; }
+byte='\n  %w = load i8, ptr %z, align 1'
+refused 'the chip by way of a copy that begins before it' "$odd" $module "$(tested "$within$(moved '%b, ptr %f, i64 16' 4)$byte")"
+refused 'the chip by way of a copy from 4 bytes before it to 4 bytes in' "$odd" $module "$(tested "$within$(moved '%t, ptr %f, i64 12' 8)$byte")"
+refused 'the chip 4 bytes in, by way of a copy' "$odd" $module \
+  "$(tested "$(behind 4 %a0)  %b = alloca [32 x i8], align 8\n$(moved '%b, ptr %x, i64 16' 4)$byte")"
+refused 'the chip by way of a copy that begins with it' "$looks chip" $module "$(tested "$within$(moved '%b, ptr %y, i64 16' 0)$byte")"
+passes 'the chip copied from where it begins on' $module "$(tested "$within$(moved '%b, ptr %y, i64 16' 0)")"
 refused 'the chip by way of an answer' "$looks chip" $module \
   "$(tested '  %y = call { ptr, i64 } @planted(ptr %a0)\n  %z = extractvalue { ptr, i64 } %y, 0\n  %w = load i8, ptr %z, align 1')
   $(planted '{ ptr, i64 } @planted(ptr noundef %a0)' "$chips  %y = load { ptr, i64 }, ptr %x, align 8\n  ret { ptr, i64 } %y")"

@@ -11,8 +11,8 @@
 
 enum { PAGES = 64, ROUNDS = 200, TIMES = 2000, FLIPPED = 1, COUNTED = 2 };
 
-bool measured_is_sound(const uint8_t *page, size_t len);
-void measured_fill(uint8_t *page, size_t len, size_t used);
+bool measured_is_sound(const uint8_t *page);
+void measured_fill(uint8_t *page, size_t used);
 
 /* ---- plain C */
 
@@ -63,14 +63,14 @@ static void fill(uint8_t *page, unsigned zeros(const uint8_t *)) {
     page[255] = (uint8_t)(n % 256);
 }
 
-/* as the other side has them: called, and with a length */
-__attribute__((noinline)) static bool words_is_sound(const uint8_t *page, size_t len) { return len == 256 && is_sound(page, flipped_by_words, zeros_by_words); }
-__attribute__((noinline)) static bool bytes_is_sound(const uint8_t *page, size_t len) { return len == 256 && is_sound(page, flipped_by_bytes, zeros_by_bytes); }
-__attribute__((noinline)) static void words_fill(uint8_t *page, size_t len, size_t used) {
-    if (len == 256 && used <= 254) fill(page, zeros_by_words);
+/* as the other side has them: called, with a page whose length the type says */
+__attribute__((noinline)) static bool words_is_sound(const uint8_t *page) { return is_sound(page, flipped_by_words, zeros_by_words); }
+__attribute__((noinline)) static bool bytes_is_sound(const uint8_t *page) { return is_sound(page, flipped_by_bytes, zeros_by_bytes); }
+__attribute__((noinline)) static void words_fill(uint8_t *page, size_t used) {
+    if (used <= 254) fill(page, zeros_by_words);
 }
-__attribute__((noinline)) static void bytes_fill(uint8_t *page, size_t len, size_t used) {
-    if (len == 256 && used <= 254) fill(page, zeros_by_bytes);
+__attribute__((noinline)) static void bytes_fill(uint8_t *page, size_t used) {
+    if (used <= 254) fill(page, zeros_by_bytes);
 }
 
 /* ---- the pages */
@@ -102,26 +102,26 @@ static void check(bool right) {
 }
 
 /* Nanoseconds a page. */
-static double time_tests(bool test(const uint8_t *, size_t)) {
+static double time_tests(bool test(const uint8_t *)) {
     size_t sound = 0;
     double t = seconds();
     for (size_t n = 0; n < TIMES; n++)
-        for (size_t p = 0; p < PAGES; p++) sound += test(pages[p], 256);
+        for (size_t p = 0; p < PAGES; p++) sound += test(pages[p]);
     t = seconds() - t;
     check(sound == (size_t)TIMES * PAGES);
     return 1e9 * t / (TIMES * PAGES);
 }
 
 /* All 254 bytes are used; the count isn't there yet. */
-static double time_fills(void make(uint8_t *, size_t, size_t)) {
+static double time_fills(void make(uint8_t *, size_t)) {
     double t = seconds();
     for (size_t n = 0; n < TIMES; n++)
         for (size_t p = 0; p < PAGES; p++) {
             pages[p][254] = pages[p][255] = 0;
-            make(pages[p], 256, 254);
+            make(pages[p], 254);
         }
     t = seconds() - t;
-    for (size_t p = 0; p < PAGES; p++) check(bytes_is_sound(pages[p], 256));
+    for (size_t p = 0; p < PAGES; p++) check(bytes_is_sound(pages[p]));
     return 1e9 * t / (TIMES * PAGES);
 }
 
@@ -134,18 +134,18 @@ static void print_ratios(const char *what, const double *least) {
 }
 
 static void compare_tests(const char *what, uint8_t form) {
-    bool (*tests[3])(const uint8_t *, size_t) = {measured_is_sound, words_is_sound, bytes_is_sound};
+    bool (*tests[3])(const uint8_t *) = {measured_is_sound, words_is_sound, bytes_is_sound};
     double least[3] = {1e9, 1e9, 1e9};
     make_pages(form);
     for (int round = 0; round < ROUNDS; round++)
         for (int i = 0; i < 3; i++) keep_least(&least[i], time_tests(tests[i]));
     print_ratios(what, least);
     pages[PAGES - 1][200] ^= 16;
-    for (int i = 0; i < 3; i++) check(!tests[i](pages[PAGES - 1], 256));
+    for (int i = 0; i < 3; i++) check(!tests[i](pages[PAGES - 1]));
 }
 
 static void compare_fills(const char *what) {
-    void (*makes[3])(uint8_t *, size_t, size_t) = {measured_fill, words_fill, bytes_fill};
+    void (*makes[3])(uint8_t *, size_t) = {measured_fill, words_fill, bytes_fill};
     double least[3] = {1e9, 1e9, 1e9};
     make_pages(COUNTED);
     for (int round = 0; round < ROUNDS; round++)

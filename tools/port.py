@@ -5,10 +5,11 @@ OUT/floatstore.ll, the chip in memory, and OUT/floatstore_driver.ll, the chip be
 1. Every line must be of a form that is listed here. Why these mean the same where a pointer has 32 bits: Rattle lays out its own data. A place on the stack is
 a number of bytes with an alignment, a field is reached by a number of bytes, a slice in a place is 16 bytes, its pointer at 0 and its length, an i64, at 8. A
 narrower pointer takes less of its 8 bytes, and whoever copies a place copies all of it, or fills it with zeros. So nothing changes as long as no number
-becomes a pointer, and a pointer a number only to see whether it lies in the n bytes from another one on (APART), no type has a size that LLVM takes from the
-target but ptr itself, no byte of a place is part of a pointer here and of a number there, pointers stand in such places only and not in what is lent, and
-whole, and whoever looks into a place with a pointer has it by name or was handed it, and there is no global data, no inline assembly, and no call but of the
-module's own functions, memmove, memset, trap and ctpop, which counts the bits of a number.
+becomes a pointer, and a pointer a number only to see whether it lies in the n bytes from another one on that are copied to it (APART), no type has a size that
+LLVM takes from the target but ptr itself, and a place of that size holds a pointer and no more, no byte of a place is part of a pointer here and of a number
+there, by whichever way a line comes to the place, pointers stand in such places only and not in what is lent, and whole, a multiple of 8 bytes from where the
+place begins, and there is no global data, no inline assembly, and no call but of the module's own functions, memmove, memset, trap and ctpop, which counts the
+bits of a number.
 A number of bytes that is added to a pointer is an i64, of which 32 bits are taken: right for every object that lies in the memory.
 A function hands over a slice, or an enum with what it has, as two words: two parameters, or a pair as its answer. Of a pair no size matters but where one is
 loaded from a place, 8 bytes apart, or 1 where both are bytes; where BITS is 32 the first becomes two loads. A slice that is written out and has no byte
@@ -40,7 +41,7 @@ INSIDE = [
     rf"{P} = load (?:i8|i16|i32|i64|ptr), ptr {P}, align [1248](?:, !\w+ !\d+)*",
     rf"store (?:i8|i16|i32|i64|ptr) {V}, ptr {P}, align [1248]",
     rf"store ptr {EMPTY}, ptr {P}, align 8",
-    rf"{P} = load {PAIR}, ptr {P}, align [18]",
+    rf"{P} = load (?:\{{ i8, i8 \}}, ptr {P}, align 1|(?!\{{ i8, i8 \}}){PAIR}, ptr {P}, align 8)",
     rf"{P} = extractvalue {PAIR} {P}, [01]",
     rf"{P} = getelementptr (?:inbounds nuw )?i8, ptr {P}, i64 {V}",
     rf"{P} = (?:add|sub|mul|shl)(?: nuw)?(?: nsw)? {I} {V}, {V}",
@@ -69,12 +70,14 @@ LENT = [
     rf"({P}) = mul i64 ({P}), 4096",
     rf"({P}) = getelementptr i8, ptr ({P}), i64 ({P})",
 ]
-# whether a pointer lies in the n bytes from another one on: the same of addresses of 32 bits that are widened
+# whether a pointer lies in the n bytes from another one on, which else are copied to it: the same of addresses of 32 bits that are widened
 APART = [
     rf"({P}) = ptrtoaddr ptr ({P}) to i64",
     rf"({P}) = ptrtoaddr ptr ({P}) to i64",
     rf"({P}) = sub i64 ({P}), ({P})",
-    rf"{P} = icmp ult i64 ({P}), {P}",
+    rf"({P}) = icmp ult i64 ({P}), ({P})",
+    rf"br i1 ({P}), label {P}, label {P}",
+    rf"call void @llvm\.memmove\.p0\.p0\.i64\(ptr ({P}), ptr ({P}), i64 ({P}), i1 false\)",
 ]
 PARAMETER = rf"{T}(?: noundef)?(?: zeroext)? {P}"
 DEFINE = rf"define (internal )?(?:noundef )?(?:zeroext )?(void|{R}) ({NAME})\(((?:{PARAMETER}(?:, {PARAMETER})*)?)\) #0 \{{"
@@ -127,17 +130,17 @@ class Function:
                 self.lent.add(self.lines[i + 3][0])
 
     def find_apart(self):
-        """Each address is taken by APART, and no other line has it or the difference."""
+        """Each address is taken by APART, and no other line has it, the difference or what the comparison says."""
         known = set()
         for i, (number, line) in enumerate(self.lines):
             if " = ptrtoaddr " in line and number not in known:
-                m = [re.fullmatch(form, said) for form, (_, said) in zip(APART, self.lines[i : i + 4])]
-                if len(m) == 4 and all(m) and (m[2][2], m[2][3], m[3][1]) == (m[0][1], m[1][1], m[2][1]):
+                m = [re.fullmatch(form, said) for form, (_, said) in zip(APART, self.lines[i : i + 6])]
+                if len(m) == 6 and all(m) and (m[2][2], m[2][3], m[3][2], m[4][1], *m[5].groups()) == (*(m[k][1] for k in range(4)), m[0][2], m[1][2], m[3][3]):
                     words = [w for _, said in self.lines for w in re.findall(P, said)]
-                    if [words.count(m[k][1]) for k in range(3)] == [2, 2, 2]:
+                    if all(words.count(m[k][1]) == 2 for k in range(4)):
                         known.add(self.lines[i + 1][0])
                         continue
-                refuse(f"line {number} of the module has a form that isn't known here, with the three after it: {line}")
+                refuse(f"line {number} of the module has a form that isn't known here, with the five after it: {line}")
 
 
 def read_module(text):
@@ -164,10 +167,11 @@ def read_module(text):
 class Pointers:
     """Which pointers may lead into the same object, by one reading of the lines in any order: two do, if one is stored where the other is loaded, or handed to
     its place. A pointer is (function, name), or what stands in an object, and leads into it some way in: (object, how far), where how far may be None, not
-    known. Of an object `inner` has, by how far in, the pointer that stands there; under None the only one, where not all distances are known."""
+    known. Of an object `inner` has, by how far in, the pointer that stands there; under None the only one, of an object in `blurred`: there not all distances
+    are known. `same` and `blur` make no new pointers: so they end, where objects hold each other's addresses too."""
 
     def __init__(self):
-        self.parent, self.inner = {}, {}
+        self.parent, self.inner, self.blurred = {}, {}, set()
 
     def find(self, a):
         """The object that a leads into, named by one pointer, and how far into it."""
@@ -180,19 +184,19 @@ class Pointers:
             more = self.parent[b][1]
             far = None if far is None or more is None else far + more
             self.parent[b] = a, far
-        return a, None if None in self.inner.get(a, {}) else far
+        return a, None if a in self.blurred else far
 
     def object(self, a):
         return self.find(a)[0]
 
-    def content(self, a, on=0):
-        """What stands where a leads to, or `on` bytes from there."""
+    def content(self, a, on=0, it=None):
+        """What stands where a leads to, or `on` bytes from there; `it`, where nothing stood."""
         a, far = self.find(a)
         if far is None or on is None:
             self.blur(a)
             a, far = self.find(a)
-        at = None if None in self.inner.get(a, {}) else far + on
-        return self.inner.setdefault(a, {}).setdefault(at, ("content of", a, at))
+        at = None if a in self.blurred else far + on
+        return self.inner.setdefault(a, {}).setdefault(at, it or ("content of", a, at))
 
     def contents(self, a):
         """All that is known to stand in the object that a leads into."""
@@ -200,13 +204,12 @@ class Pointers:
 
     def blur(self, a):
         """Of the object a it isn't told apart any more what stands where."""
-        held = self.inner.setdefault(a, {})
-        if None not in held:
-            known = list(held.values())
-            held.clear()
-            held[None] = ("content of", a, None)
-            for b in known:
-                self.same(held[None], b)
+        if a not in self.blurred:
+            self.blurred.add(a)
+            known = list(self.inner.pop(a, {}).values())
+            self.inner[a] = {None: b for b in known[:1]}
+            for b in known[1:]:
+                self.same(known[0], b)
 
     def same(self, a, b, on=0):
         """a leads to where b does, or `on` bytes from there."""
@@ -224,10 +227,8 @@ class Pointers:
                 return
         held = self.inner.pop(a, {})
         self.parent[a] = b, on
-        if None in held:
-            self.blur(self.object(b))
         for far, c in held.items():
-            self.same(c, self.content(b, None if far is None or on is None else far + on))
+            self.same(c, self.content(b, None if far is None or on is None else far + on, c))
 
 
 def read_lines(f):
@@ -235,7 +236,9 @@ def read_lines(f):
     out = []
     for number, line in f.lines:
         does = lambda what, *of, number=number, line=line: out.append((number, line, what, of))
-        if m := re.match(rf"({P}) = getelementptr .*?ptr ({P}), i64 ({V})$", line):
+        if m := re.match(rf"({P}) = alloca (ptr)?", line):
+            does("begins", m[1], m[2] is not None)
+        elif m := re.match(rf"({P}) = getelementptr .*?ptr ({P}), i64 ({V})$", line):
             does("move", m[1], m[2], 0 if number in f.lent else int(m[3]) if m[3].isdigit() else None)
             if number not in f.lent:
                 does("take", m[2], 0, 0, False)
@@ -263,7 +266,7 @@ def read_lines(f):
         elif m := re.match(rf"call void @llvm\.memset\S*\(ptr ({P}), i8 ({V}), i64 ({V}),", line):
             n = int(m[3]) if m[3].isdigit() else None
             # 8 bytes 0, or those that a narrower pointer takes of them, are a null pointer, and a number too
-            does("take", m[1], 0, "zeros" if m[2] == "0" and n is not None and n % 8 == 0 else n, False)
+            does("take", m[1], 0, n, None if m[2] == "0" and n is not None and n % 8 == 0 else False)
         elif m := re.match(rf"(?:({P}) = )?call (?:void|({R})) ({NAME})\((.*)\)$", line):
             answer = m[1] if m[2] in ("ptr", "{ ptr, i64 }", "{ i8, ptr }") else None
             does("call", m[3], [word.split()[-1] for word in m[4].split(", ") if word], answer)
@@ -273,16 +276,21 @@ def read_lines(f):
 
 
 class Followed:
-    """Which pointers lead into the same object, call by call from the exported functions on, each function anew at each call. A pointer is (call, name).
+    """Which pointers lead into the same object, call by call from the exported functions and those that nothing calls on, each function anew at each call. A
+    pointer is (call, name). `places` are the beginnings of places on the stack, and whether each has the size of a pointer; `lent` leads to what is none.
     `taken` is what the lines take of the objects and put there: a pointer, how far from it, how many bytes (None where that isn't known), whether they are a
-    pointer, and the line; `copied` what they copy: to, from, how many bytes, the line; `calls` of each function its calls."""
+    pointer (None: zeros, for pointers too), and the line; `copied` what they copy: to, from, how many bytes, the line; `calls` of each function its calls."""
 
     def __init__(self, functions, without=()):
         self.by_name, self.without = {f.name: f for f in functions}, without
         self.does = {f.name: read_lines(f) for f in functions}
         self.pointers, self.taken, self.copied, self.calls = Pointers(), [], [], collections.defaultdict(list)
-        for f in functions:
-            if not f.internal:
+        self.places, self.lent = [], []
+        called = {of[0] for does in self.does.values() for _, _, what, of in does if what == "call"}
+        # last those that are called, but from nowhere that is followed: from one another, or from those without lines
+        for f in sorted(functions, key=lambda f: f.internal and f.name in called):
+            if not f.internal or f.name not in self.calls:
+                self.lent += [(f.name, name) for kind, name in f.parameters if kind == "ptr"]
                 self.follow(f.name, f.name, ())
 
     def follow(self, name, call, above):
@@ -293,7 +301,10 @@ class Followed:
             why = number, name, line
             if what == "move":
                 self.pointers.same((call, of[0]), (call, of[1]), of[2])
+            elif what == "begins":
+                self.places.append(((call, of[0]), of[1]))
             elif what == "is there":
+                self.lent += [(call, of[0])] if of[0].startswith("@") else []
                 self.pointers.same((call, of[0]), self.pointers.content((call, of[1]), of[2]))
             elif what == "take":
                 self.taken.append(((call, of[0]), *of[1:], why))
@@ -313,29 +324,45 @@ class Followed:
                 self.follow(of[0], inner, above + (name,))
 
 
+MIXED = "a byte is part of a pointer in one line of the module and of a number in another"
+NO_PLACE = "a pointer stands where the module has no place for one"
+PART = "a part of a pointer is taken, or a pointer where none begins"
+SMALL = "a place of the size of a pointer is taken as something else"
+
+
 def check_places(functions):
-    """Pointers are stored in places on the stack only; and each byte of a place is part of a pointer in all lines that take it or in none, by whichever way the
-    line came to the place, and so are the bytes that it is copied to; and no part of a pointer is taken or copied without the rest."""
+    """Pointers are stored in places on the stack only, a multiple of 8 bytes from where these begin; and each byte of a place is part of a pointer in all lines
+    that take it or in none, by whichever way the line came to the place, and so are the bytes that it is copied to; and no part of a pointer is taken, filled
+    or copied without the rest. A place whose size is that of a pointer, on a narrower target fewer than 8 bytes, is loaded and stored as one and no more."""
     followed = Followed(functions)
     pointers, taken, copied = followed.pointers, followed.taken, followed.copied
     kinds = collections.defaultdict(dict)  # of an object: the bytes that are known, and of which pointer each is part, by where that begins; None, of a number
     plain = {}  # objects that have no pointer: a line takes a byte of them as part of a number, and which byte that is isn't known here
-    mixed = "a byte is part of a pointer in one line of the module and of a number in another"
+    lent, small = {pointers.object(p) for p in followed.lent}, {pointers.object(p) for p, one in followed.places if one}
+    begins = collections.defaultdict(set)  # of an object: how far from a multiple of 8 places on the stack begin in it
+    for p, _ in followed.places:
+        place, far = pointers.find(p)
+        begins[place].add(None if far is None else far % 8)
 
     def mark(place, far, of, why):
+        if of is not None and (place in lent or not begins[place]):
+            refuse(f"{NO_PLACE}: line {why[0]}, {why[2]}")
+        if of is not None and begins[place] != {of % 8}:
+            refuse(f"{PART}: line {why[0]}, {why[2]}")
         if kinds[place].setdefault(far, of) != of or of is not None and place in plain:
-            refuse(f"{mixed}: line {why[0]}, {why[2]}")
+            refuse(f"{MIXED}: line {why[0]}, {why[2]}")
 
-    lent = {pointers.object((f.name, name)) for f in functions if not f.internal for kind, name in f.parameters if kind == "ptr"}
     for p, on, n, is_pointer, why in taken:
         place, far = pointers.find(p)
-        if is_pointer and place in lent:
-            refuse(f"a pointer stands where the module has no place for one: line {why[0]}, {why[2]}")
+        if is_pointer and (place in lent or not begins[place]):
+            refuse(f"{NO_PLACE}: line {why[0]}, {why[2]}")
         if is_pointer and far is None:  # which byte of it some line takes isn't known
-            refuse(f"{mixed}: line {why[0]}, {why[2]}")
-        if n == 0 or n == "zeros" and far is not None:
+            refuse(f"{MIXED}: line {why[0]}, {why[2]}")
+        if not is_pointer and place in small:
+            refuse(f"{SMALL}: line {why[0]}, {why[2]}")
+        if n == 0 or is_pointer is None and far is not None and begins[place] == {far % 8}:
             continue
-        if far is None or n in (None, "zeros"):
+        if far is None or n is None:
             plain.setdefault(place, why)
         else:
             for i in range(n):
@@ -354,10 +381,20 @@ def check_places(functions):
                         mark(y, far - i + j, None if of is None else of - i + j, why)
     for place, why in plain.items():
         if any(of is not None for of in kinds[place].values()):
-            refuse(f"{mixed}: line {why[0]}, {why[2]}")
+            refuse(f"{MIXED}: line {why[0]}, {why[2]}")
+    check_whole(kinds, [(*pointers.find(p), n, why) for a, b, n, why in copied for p in (a, b)])
+
+
+def check_whole(kinds, copied):
+    """Each pointer has all its 8 bytes, and of a copy none or all, which are one of the steps by which `follow` joins what is copied."""
+    stands = collections.defaultdict(set)  # of an object: where its pointers begin
     for place, bytes_of in kinds.items():
-        if any(of is not None and not all(bytes_of.get(of + i, of + 8) == of for i in range(8)) for of in bytes_of.values()):
-            refuse(f"a part of a pointer is taken, or a pointer where none begins: {place}")
+        stands[place] = {of for of in bytes_of.values() if of is not None}
+        if not all(bytes_of.get(of + i, of + 8) == of for of in stands[place] for i in range(8)):
+            refuse(f"{PART}: {place}")
+    for place, far, n, why in copied:
+        if None not in (far, n) and any(far - 8 < of < far + n and of not in range(far, far + n - 7, 8) for of in stands[place]):
+            refuse(f"{PART}: line {why[0]}, {why[2]}")
 
 
 def declared(path):

@@ -86,7 +86,7 @@ pub fn read(chip: &[u8], at: usize, to: &mut [u8])
     requires { at + length to.old ≤ length chip.now }
     ensures { to.new ≡ take (length to.old) (drop at chip.now) }
 {
-    // no copy_from_slice: it is called, not taken in, and a search in the index takes a seventh longer
+    // no copy_from_slice: it is called, not taken in, and a search in the index takes half as many instructions again
     for i in 0..to.len() {
         to[i] = chip[at + i];
     }
@@ -156,6 +156,16 @@ fn lay(dst: &mut [u8], src: &[u8], set: bool)
     }
 }
 
+// The bytes of src in the place of those of dst. (No copy_from_slice: with it the library for C would ask for memmove, beside memcpy and memset.)
+fn copy_over(dst: &mut [u8], src: &[u8])
+    requires { length dst.old ≡ length src.now }
+    ensures { dst.new ≡ src.now }
+{
+    for (i, x) in dst.iter_mut().enumerate() {
+        *x = src[i];
+    }
+}
+
 // Erases block b.
 pub fn erase(chip: &mut [u8], b: usize, fuse: &mut u64, noise: &[u8; 4096])
     requires { 4096 * b + 4096 ≤ length chip.old }
@@ -171,7 +181,7 @@ pub fn erase(chip: &mut [u8], b: usize, fuse: &mut u64, noise: &[u8; 4096])
     *fuse = f - 1;
     // cut short, any bytes may stand there: those of the noise
     if f == 1 {
-        block.copy_from_slice(noise);
+        copy_over(block, noise);
     } else {
         block.fill(255);
     }

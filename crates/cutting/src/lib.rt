@@ -4,52 +4,77 @@
 // A place in the history is how many calls stand before it. The first call is the first start, so that 0 is never the place of a map.
 #![tactic(auto)]
 
-ghost use Rattle.std.specs.Prelude.{◌≤◌, length, vec_len, IfOk, IfSome};
+ghost use Rattle.std.specs.Prelude.{◌≤◌, length, IfSome};
 
 use calls::{Bench, Call};
 use lent::Refusal;
-use std::alloc::{AllocError, Global};
 
 // Power for longer than the history lasts.
 pub const LONG: u64 = 1000;
 
 // ---- the history
 
-// A line of the script: its call, and the words of its key and its value; no bytes for none.
-#[derive(Drop)]
-pub struct Step<'a> {
-    pub call: Option<Call>,
-    pub key: &'a [u8],
-    pub value: &'a [u8],
+// The steps of a script, a line each: how many they are, and the values that they leave the keys with in the end. (A call is read from its line where it is
+// made: a list of them could run out of memory.)
+#[derive(Clone, Copy)]
+pub struct Steps<'a> {
+    script: &'a [u8],
+    pub count: usize,
+    last: [&'a [u8]; 8],
+    ghost within: { count ≤ length script.now },
 }
 
-fn read_step<'a>(alloc: Global, line: &'a [u8]) -> Result<Step<'a>, AllocError> {
-    Ok(Step {
-        call: Call::read(alloc, line)?,
-        key: trying::word(line, 1),
-        value: trying::word(line, 2),
-    })
-}
-
-// The steps of a script, a line each.
-pub fn history<'a>(alloc: Global, script: &'a [u8]) -> Result<Vec<Step<'a>>, AllocError>
-    ensures { IfOk result (λ steps. vec_len steps ≤ length script.now) }
+pub fn history(script: &[u8]) -> Steps<'_>
+    ensures { result.count ≤ length script.now }
 {
-    let lines = trying::lines(alloc, script)?;
-    let mut steps = Vec::new(alloc);
-    for line in &lines {
-        steps.push(read_step(alloc, line)?)?;
+    let count = trying::count_lines(script);
+    Steps {
+        script,
+        count,
+        last: due_values(script, count),
     }
-    Ok(steps)
+}
+
+impl<'a> Steps<'a> {
+    // The line of the step at that place.
+    fn line(&self, at: usize) -> &'a [u8] {
+        self.script
+            .split_inclusive(trying::ends_line)
+            .nth(at)
+            .map_or(&[], trying::without_end)
+    }
+
+    // The values that the first n steps leave the keys with. (The last ones are kept, since every trial ends with them.)
+    fn due(&self, n: usize) -> [&'a [u8]; 8] {
+        if n == self.count {
+            self.last
+        } else {
+            due_values(self.script, n)
+        }
+    }
+}
+
+// The words of a line's key and of its value; no bytes for none.
+fn key_and_value(line: &[u8]) -> (&[u8], &[u8]) {
+    let mut words = line.split(|b| *b == b' ').skip(1);
+    let key = words.next().unwrap_or(&[]);
+    (key, words.next().unwrap_or(&[]))
 }
 
 // ---- the map
 
-// The value that these calls leave the key with; no bytes for none.
-fn due_value<'a>(done: &[Step<'a>], key: &[u8]) -> &'a [u8] {
-    done.iter()
-        .rfind(|step| step.key == key)
-        .map_or(&[], |step| step.value)
+// The keys that a history's calls may have.
+const KEYS: [u8; 8] = *b"abcdefgh";
+
+// The values that the calls of the first n lines leave the keys with; no bytes for none.
+fn due_values(script: &[u8], n: usize) -> [&[u8]; 8] {
+    let mut due: [&[u8]; 8] = [&[]; 8];
+    for line in script.split_inclusive(trying::ends_line).take(n) {
+        if let ([key @ b'a'..=b'h'], value) = key_and_value(trying::without_end(line)) {
+            due[(*key - b'a') as usize] = value;
+        }
+    }
+    due
 }
 
 // Whether get answers the value that is due; or that there is none, where none is.
@@ -62,29 +87,24 @@ fn reads(due: &[u8], key: u8, bench: &Bench) -> bool {
     }
 }
 
-// The keys that a history's calls may have.
-const KEYS: [u8; 8] = *b"abcdefgh";
-
-// Whether the map is the one after these calls: each key is as they leave it, and there are no others.
-fn holds(done: &[Step], bench: &Bench) -> bool {
-    let live = KEYS
-        .iter()
-        .filter(|key| !due_value(done, &[**key]).is_empty())
-        .count();
+// Whether the map is the one of these values: each key has the one that is due, and there are no others.
+fn holds(due: &[&[u8]; 8], bench: &Bench) -> bool {
+    let live = due.iter().filter(|value| !value.is_empty()).count();
     bench.count().unwrap_or(0) == live
         && KEYS
             .iter()
-            .all(|key| reads(due_value(done, &[*key]), *key, bench))
+            .zip(due)
+            .all(|(key, value)| reads(value, *key, bench))
 }
 
 // Which of two maps it is, by its place.
-fn map_now(steps: &[Step], before: usize, after: usize, bench: &Bench) -> Option<usize>
-    requires { (before ≤ length steps.now) × (after ≤ length steps.now) }
-    ensures { IfSome result (λ map. map ≤ length steps.now) }
+fn map_now(steps: &Steps, before: usize, after: usize, bench: &Bench) -> Option<usize>
+    requires { (before ≤ steps.now.count) × (after ≤ steps.now.count) }
+    ensures { IfSome result (λ map. map ≤ steps.now.count) }
 {
-    let map = if holds(&steps[..before], bench) {
+    let map = if holds(&steps.due(before), bench) {
         before
-    } else if holds(&steps[..after], bench) {
+    } else if holds(&steps.due(after), bench) {
         after
     } else {
         return None;
@@ -95,44 +115,50 @@ fn map_now(steps: &[Step], before: usize, after: usize, bench: &Bench) -> Option
 // ---- the calls
 
 // The call of a line; a line that has none is done.
-fn make(step: &Step, bench: &mut Bench) -> Result<usize, Refusal> {
-    match &step.call {
-        Some(call) => bench.make(call),
+fn make(line: &[u8], bench: &mut Bench) -> Result<usize, Refusal> {
+    match Call::read(line) {
+        Some(call) => bench.make(&call),
         None => Ok(0),
     }
 }
 
+// Whether a line has a word for a value. (A delete has none.)
+fn has_value(line: &[u8]) -> bool {
+    !trying::word(line, 2).is_empty()
+}
+
 // Whether the call is answered as it should be: it is done, but for a delete that was made already. (`made` is a truth value, and no kind.)
-fn is_answered(step: &Step, made: bool, bench: &mut Bench) -> bool {
-    match make(step, bench) {
-        Ok(_) => !made || !step.value.is_empty(),
-        Err(Refusal::NoValue) => made && step.value.is_empty(),
+fn is_answered(line: &[u8], made: bool, bench: &mut Bench) -> bool {
+    match make(line, bench) {
+        Ok(_) => !made || has_value(line),
+        Err(Refusal::NoValue) => made && !has_value(line),
         Err(_) => false,
     }
 }
 
 // The calls from there on, on the map of place n, up to the first that isn't answered as it should be. Answers where that is.
-fn run(steps: &[Step], from: usize, n: usize, bench: &mut Bench) -> usize
-    ensures { result ≤ length steps.now }
+fn run(steps: &Steps, from: usize, n: usize, bench: &mut Bench) -> usize
+    ensures { result ≤ steps.now.count }
 {
-    for at in from..steps.len() {
-        if !is_answered(&steps[at], at < n, bench) {
+    let lines = steps.script.split_inclusive(trying::ends_line);
+    for (at, line) in (from..steps.count).zip(lines.skip(from)) {
+        if !is_answered(trying::without_end(line), at < n, bench) {
             return at;
         }
     }
-    steps.len()
+    steps.count
 }
 
 // The power has gone during that call: it is refused until a start, which is done.
-fn recovers(step: &Step, bench: &mut Bench) -> bool {
-    let refused = make(step, bench) == Err(Refusal::PowerGone);
+fn recovers(line: &[u8], bench: &mut Bench) -> bool {
+    let refused = make(line, bench) == Err(Refusal::PowerGone);
     bench.start().is_ok() && refused
 }
 
 // Whether after a start the map is the one after all calls.
-pub fn ended(steps: &[Step], bench: &mut Bench) -> bool {
-    bench.fuse = LONG;
-    bench.start().is_ok() && holds(steps, bench)
+pub fn ended(steps: &Steps, bench: &mut Bench) -> bool {
+    *bench.fuse = LONG;
+    bench.start().is_ok() && holds(&steps.last, bench)
 }
 
 // ---- a cut
@@ -146,23 +172,17 @@ pub struct Found {
 
 // The calls from there on, on the map of place n, with that power. After a cut the store is started: its map is the one before the cut call or the one after
 // it. None if something went wrong.
-pub fn survive(
-    steps: &[Step],
-    from: usize,
-    n: usize,
-    bench: &mut Bench,
-    power: u64,
-) -> Option<Found>
-    ensures { IfSome result (λ found. (found.call ≤ length steps.now) × (found.map ≤ length steps.now)) }
+pub fn survive(steps: &Steps, from: usize, n: usize, bench: &mut Bench, power: u64) -> Option<Found>
+    ensures { IfSome result (λ found. (found.call ≤ steps.now.count) × (found.map ≤ steps.now.count)) }
 {
-    bench.fuse = power;
+    *bench.fuse = power;
     let call = run(steps, from, n, bench);
-    bench.fuse = LONG;
-    let Some(step) = steps.get(call) else {
+    *bench.fuse = LONG;
+    if call == steps.count {
         let map = map_now(steps, call, call, bench)?;
         return Some(Found { call, map });
-    };
-    if !recovers(step, bench) {
+    }
+    if !recovers(steps.line(call), bench) {
         return None;
     }
     let map = map_now(steps, call, call + 1, bench)?;
@@ -176,12 +196,12 @@ mod tests {
 
     #[test]
     fn history_has_a_step_for_each_line(rt: HostRuntime) -> Result<(), Fail> {
-        let steps = history(rt.alloc(), b"start\nput a 1\ndelete a\n")?;
-        assert_eq!(rt; steps.len(), 3);
-        assert_eq!(rt; steps[1].key, b"a".as_slice());
-        assert_eq!(rt; steps[1].value, b"1".as_slice());
-        assert!(rt; matches!(steps[2].call, Some(Call::Delete(_))));
-        assert!(rt; steps[2].value.is_empty());
+        let steps = history(b"start\nput a 1\ndelete a\n");
+        assert_eq!(rt; steps.count, 3);
+        assert_eq!(rt; key_and_value(steps.line(1)).0, b"a".as_slice());
+        assert_eq!(rt; key_and_value(steps.line(1)).1, b"1".as_slice());
+        assert!(rt; matches!(Call::read(steps.line(2)), Some(Call::Delete(_))));
+        assert!(rt; key_and_value(steps.line(2)).1.is_empty());
         Ok(())
     }
 }

@@ -37,7 +37,7 @@ pub fn format(
     ensures right { FormatEnds chip.old fuse.old work.old chip.new fuse.new work.new (answer_of result) }
 {
     let b = lent::blocks(chip, work)?;
-    if *fuse == 0 || work[lent::MARK] == lent::GONE {
+    if (*fuse == 0) || work[lent::MARK] == lent::GONE {
         return Err(Refusal::PowerGone);
     }
     // the store is not ready until a start

@@ -104,7 +104,7 @@ pub fn unready(chip: &[u8], work: &[u32], fuse: &u64) -> Result<(), Refusal>
 {
     let b = blocks(chip, work)?;
     let mark = work[MARK];
-    if *fuse == 0 || mark == GONE {
+    if (*fuse == 0) || mark == GONE {
         return Err(Refusal::PowerGone);
     }
     if mark != READY {

@@ -12,7 +12,6 @@ use lib.Arith.{half_le}
 use lib.Bits.{bit_or, or_step, or_zero_r}
 use lib.Count.{ones, ones_step, ones_cat, ones-le}
 use Rattle.page.specs.Page.{byte, Bytes, Bare, ones_to}
-use Rattle.page.specs.Lanes.{ones_at}
 
 -- ---- NOISE: x or n has the 1 bits of x, and is x if it has no more
 pub record Gains (x y : ℕ) : Type 0 where
@@ -109,28 +108,3 @@ ones_eight a b c d e f g h n la lb lc ld le lf lg q =
     let last : ones high ≡ ones e + ones f + ones g + ones h = ones_four e f g h high le lf lg refl in
     let both : ones n ≡ ones high + ones low = ones_beside 32 high low n (omega arith) (omega arith) in
     omega arith
-
--- xs: the eight bytes of a page from byte a on
-pub ones_read : (pg : List ℕ) (a : ℕ) (xs : List ℕ) (n : ℕ) → Bytes pg → ((i : ℕ) → i < 8 → byte xs i ≡ byte pg (a + i))
-    → n ≡ byte xs 0 + byte xs 1 * 256 + byte xs 2 * 65536 + byte xs 3 * 16777216 + byte xs 4 * 4294967296 + byte xs 5 * 1099511627776 + byte xs 6 * 281474976710656 + byte xs 7 * 72057594037927936
-    → ones n ≡ ones_at pg a
-unfolding ones_at
-ones_read pg a xs n b h e =
-    let small : (i : ℕ) → i < 8 → byte xs i < 256 = λ i l. omega (arith, h i l, b (a + i)) in
-    let same : (i : ℕ) → i < 8 → ones (byte xs i) ≡ ones (byte pg (a + i)) = λ i l. ap ones (h i l) in
-    let zeroth : a + 0 ≡ a = omega arith in
-    let all =
-    ones_eight _ _ _ _ _ _ _ _ n (small 0 (omega arith)) (small 1 (omega arith)) (small 2 (omega arith)) (small 3 (omega arith)) (small 4 (omega arith)) (small 5 (omega arith)) (small 6 (omega arith)) e in
-    omega (
-      arith,
-      all,
-      same 0 (omega arith),
-      ap (λ (k : ℕ). ones (byte pg k)) zeroth,
-      same 1 (omega arith),
-      same 2 (omega arith),
-      same 3 (omega arith),
-      same 4 (omega arith),
-      same 5 (omega arith),
-      same 6 (omega arith),
-      same 7 (omega arith),
-    )

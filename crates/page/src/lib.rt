@@ -61,9 +61,16 @@ fn eight_at(page: &Page, a: usize) -> u64
     requires { a + 8 ≤ 256 }
     ensures { ones result ≡ ones_at page.now a }
 {
-    let mut bytes = [0; 8];
-    bytes.copy_from_slice(&page[a..a + 8]);
-    u64::from_le_bytes(bytes)
+    u64::from_le_bytes([
+        page[a],
+        page[a + 1],
+        page[a + 2],
+        page[a + 3],
+        page[a + 4],
+        page[a + 5],
+        page[a + 6],
+        page[a + 7],
+    ])
 }
 
 // Three numbers are added bit by bit: where two bits or three are 1, and where one is or all three are. So three numbers are two to be counted.

@@ -33,7 +33,6 @@ module _ (B n h x p l top : ℕ) (noise c : List ℕ) (f : ℕ) (ix : List ℕ) 
       }
 
   module _ (d ix₁ : List ℕ) (g y q m : ℕ) (a : Sofar B n h x p l top noise c f ix d g ix₁ y q m) where
-    -- it ends here
     -- a place more
     module _ (some_left : 0 < m) (most : m ≤ l) (room : y < top) (zone : q < y + (B - 2)) (e ix₂ : List ℕ) (k : ℕ) where
       looks : Looks B (cursor q m top) y

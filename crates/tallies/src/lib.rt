@@ -122,14 +122,14 @@ impl Tally {
 
 // A store whose answers are counted, and the dice that choose keys and values.
 #[derive(Drop)]
-pub struct Trial {
-    pub bench: Bench,
+pub struct Trial<'a> {
+    pub bench: Bench<'a>,
     pub dice: Dice,
     pub tally: Tally,
     pub part: Part,
 }
 
-impl Trial {
+impl Trial<'_> {
     pub fn add(&mut self, slot: Slot, by: u64)
         ensures { self.new.tally.numbers ≡ raised self.old.tally.numbers (begins self.old.part + place slot) by }
     {

@@ -100,17 +100,20 @@ fn lay_out(chip: &mut Chip<'_>) -> Result<(), Halt>
 
 // Such a chip, of two blocks. The power stays on, so that nothing halts. (try_pages has a twin of it, of another size and with another writer: one function of
 // both would take a const and a closure for four lines.)
-fn set_up() -> [u8; 8192] {
-    let mut bytes = [0u8; 8192];
+fn set_up(bytes: &mut [u8; 8192]) {
     let mut fuse = 9;
-    let _ = lay_out(&mut Chip::new(&mut bytes, &mut fuse, &[0u8; 4096]));
-    bytes
+    let _ = lay_out(&mut Chip::new(bytes, &mut fuse, &[0u8; 4096]));
 }
 
-// The operation under a fault script, with a noise, on such a chip.
-fn try_cut(rt: &impl Print, operation: Operation, script: u64, noise: Noise) -> io::Result<()> {
-    let before = set_up();
-    let mut after = before;
+// The operation under a fault script, with a noise, on such a chip, which is then compared with it.
+fn try_cut(
+    rt: &impl Print,
+    before: &[u8; 8192],
+    operation: Operation,
+    script: u64,
+    noise: Noise,
+) -> io::Result<()> {
+    let mut after = *before;
     let mut fuse = script;
     let left = noise.bytes(&value(b"forged"));
     let _ = operation.run(&mut Chip::new(&mut after, &mut fuse, &left));
@@ -121,15 +124,17 @@ fn try_cut(rt: &impl Print, operation: Operation, script: u64, noise: Noise) -> 
     )?;
     print_page(rt, &chip::page_at(&after, operation.page()))?;
     let Range { start, end } = operation.reach();
-    let elsewhere = trying::changed(&before, &after, start, end);
+    let elsewhere = trying::changed(before, &after, start, end);
     println!(rt; ", left of the script {fuse}, changed elsewhere {elsewhere}")
 }
 
 fn main(rt: HostRuntime) -> io::Result<()> {
+    let mut before = [0u8; 8192];
+    set_up(&mut before);
     for noise in &NOISES[..4] {
         for script in 0..3 {
-            try_cut(&rt, Operation::Write, script, *noise)?;
-            try_cut(&rt, Operation::Erase, script, *noise)?;
+            try_cut(&rt, &before, Operation::Write, script, *noise)?;
+            try_cut(&rt, &before, Operation::Erase, script, *noise)?;
         }
     }
     Ok(())

@@ -6,8 +6,7 @@
 #![tactic(auto)]
 
 use calls::Bench;
-use cutting::{Found, LONG, Step};
-use std::alloc::{AllocError, Global};
+use cutting::{Found, LONG, Steps};
 use std::{fmt, io};
 use trying::{NOISES, Noise};
 
@@ -77,32 +76,18 @@ impl fmt::Display for Outcomes {
 // A history, what it is run on, and the noises of the first cut and of the second.
 #[derive(Drop)]
 struct Trial<'a> {
-    history: &'a [Step<'a>],
-    bench: Bench,
-    first: [u8; 4096],
-    second: [u8; 4096],
+    history: Steps<'a>,
+    bench: Bench<'a>,
+    first: &'a [u8; 4096],
+    second: &'a [u8; 4096],
 }
 
-impl<'a> Trial<'a> {
-    fn new(alloc: Global, history: &'a [Step<'a>]) -> Result<Self, AllocError> {
-        Ok(Trial {
-            history,
-            bench: Bench {
-                chip: vec![in alloc; 255u8; 16384]?,
-                work: vec![in alloc; 0u32; 80]?,
-                fuse: LONG,
-                noise: [0u8; 4096],
-            },
-            first: [0u8; 4096],
-            second: [0u8; 4096],
-        })
-    }
-
+impl Trial<'_> {
     // The history is run from there to its end, with power that stays. Whether the map is right, also after a start.
     fn ends_right(&mut self, from: usize, n: usize) -> bool {
-        let found = cutting::survive(self.history, from, n, &mut self.bench, LONG);
-        let ended = cutting::ended(self.history, &mut self.bench);
-        ended && found.is_some_and(|found| found.map == self.history.len())
+        let found = cutting::survive(&self.history, from, n, &mut self.bench, LONG);
+        let ended = cutting::ended(&self.history, &mut self.bench);
+        ended && found.is_some_and(|found| found.map == self.history.count)
     }
 
     // The history on a blank chip, with the power going at operation t.
@@ -110,7 +95,7 @@ impl<'a> Trial<'a> {
         self.bench.chip.fill(255);
         self.bench.work.fill(0);
         self.bench.noise = self.first;
-        cutting::survive(self.history, 0, 0, &mut self.bench, t)
+        cutting::survive(&self.history, 0, 0, &mut self.bench, t)
     }
 
     // How the history goes so.
@@ -119,7 +104,7 @@ impl<'a> Trial<'a> {
             return Outcome::Wrong;
         };
         let right = self.ends_right(found.map, found.map);
-        Outcome::of(self.history.len(), found, found, right)
+        Outcome::of(self.history.count, found, found, right)
     }
 
     // The same; after a start the call is made again, with the power going at its operation s.
@@ -128,12 +113,12 @@ impl<'a> Trial<'a> {
             return Outcome::Wrong;
         };
         self.bench.noise = self.second;
-        let Some(last) = cutting::survive(self.history, first.call, first.map, &mut self.bench, s)
+        let Some(last) = cutting::survive(&self.history, first.call, first.map, &mut self.bench, s)
         else {
             return Outcome::Wrong;
         };
         let right = self.ends_right(first.call, last.map);
-        Outcome::of(self.history.len(), first, last, right)
+        Outcome::of(self.history.count, first, last, right)
     }
 
     // Every first cut; or, after each, every second one.
@@ -169,7 +154,7 @@ fn every<F: FnMut(u64) -> Outcome>(mut cut: F, outcomes: &mut Outcomes)
 // Every cut with one noise; or every second cut with the second noise after every first one.
 fn try_noises(
     rt: &impl Print,
-    trial: &mut Trial,
+    history: Steps,
     first: Noise,
     second: Option<Noise>,
 ) -> io::Result<()> {
@@ -177,26 +162,41 @@ fn try_noises(
     if let Some(second) = second {
         print!(rt; ", then {second}")?;
     }
-    trial.first = calls::noise(first);
-    trial.second = calls::noise(second.unwrap_or(first));
+    let mut chip = [255u8; 16384];
+    let mut work = [0u32; 80];
+    let mut fuse = LONG;
+    let mut first_noise = [0u8; 4096];
+    calls::fill_noise(first, &mut first_noise);
+    let mut second_noise = [0u8; 4096];
+    calls::fill_noise(second.unwrap_or(first), &mut second_noise);
+    let mut trial = Trial {
+        history,
+        bench: Bench {
+            chip: &mut chip,
+            work: &mut work,
+            fuse: &mut fuse,
+            noise: &first_noise,
+        },
+        first: &first_noise,
+        second: &second_noise,
+    };
     println!(rt; ": {}", trial.every_cut(second))
 }
 
 // Each noise, alone or with that second one.
-fn try_each(rt: &impl Print, trial: &mut Trial, second: Option<Noise>) -> io::Result<()> {
+fn try_each(rt: &impl Print, history: Steps, second: Option<Noise>) -> io::Result<()> {
     for first in NOISES {
-        try_noises(rt, trial, first, second)?;
+        try_noises(rt, history, first, second)?;
     }
     Ok(())
 }
 
 fn main(rt: HostRuntime) -> io::Result<()> {
     let script = trying::input(&rt)?;
-    let history = cutting::history(rt.alloc(), &script)?;
-    let mut trial = Trial::new(rt.alloc(), &history)?;
-    try_each(&rt, &mut trial, None)?;
+    let history = cutting::history(&script);
+    try_each(&rt, history, None)?;
     for second in NOISES {
-        try_each(&rt, &mut trial, Some(second))?;
+        try_each(&rt, history, Some(second))?;
     }
     Ok(())
 }

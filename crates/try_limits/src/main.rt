@@ -18,57 +18,63 @@
 
 use calls::{Bench, Call};
 use lent::Refusal;
-use std::alloc::{AllocError, Global};
 use std::io;
-use trying::{LONGEST, Noise};
+use trying::{LONGEST, Noise, Text};
 
 // What a line of the script says.
-#[derive(Drop)]
+#[derive(Clone, Copy)]
 enum Line {
     Heading,
     Lend,
     Fuse(u64),
     Noise(Noise),
     Count,
-    Get(Vec<u8>, usize),
+    Get(Text, usize),
     // no call where the line names none: it is done
     Call(Option<Call>),
 }
 
 impl Line {
-    fn read(alloc: Global, line: &[u8]) -> Result<Line, AllocError> {
-        Ok(match trying::word(line, 0) {
+    fn read(line: &[u8]) -> Line {
+        match trying::word(line, 0) {
             b"" | b"#" => Line::Heading,
             b"lend" => Line::Lend,
             b"fuse" => Line::Fuse(trying::numeral(line, 1)),
             b"noise" => Line::Noise(Noise::try_from(trying::word(line, 1)).unwrap_or(Noise::Kept)),
             b"count" => Line::Count,
-            b"get" => Line::Get(
-                trying::bytes(alloc, line, 1)?,
-                trying::numeral(line, 2) as usize,
-            ),
-            _ => Line::Call(Call::read(alloc, line)?),
-        })
+            b"get" => Line::Get(trying::bytes(line, 1), trying::numeral(line, 2) as usize),
+            _ => Line::Call(Call::read(line)),
+        }
     }
 }
 
-// lend N BYTE M: at most five blocks and 96 words
-fn lend(alloc: Global, line: &[u8]) -> Result<Bench, AllocError> {
-    let n = (trying::numeral(line, 1) as usize).min(20480);
-    let byte = (trying::numeral(line, 2) % 256) as u8;
-    let m = (trying::numeral(line, 3) as usize).min(96);
-    Ok(Bench {
-        chip: vec![in alloc; byte; n]?,
-        work: vec![in alloc; 0u32; m]?,
-        fuse: 1000000000,
-        noise: [0u8; 4096],
-    })
+// At most five blocks and 96 words, of which the first so many are lent; and what cuts the calls.
+#[derive(Drop)]
+struct Store {
+    chip: [u8; 20480],
+    bytes: usize,
+    work: [u32; 96],
+    words: usize,
+    fuse: u64,
+    noise: [u8; 4096],
+}
+
+impl Store {
+    // lend N BYTE M
+    fn lend(&mut self, line: &[u8]) {
+        self.bytes = trying::numeral(line, 1) as usize;
+        self.words = trying::numeral(line, 3) as usize;
+        self.chip = [(trying::numeral(line, 2) % 256) as u8; 20480];
+        self.work = [0; 96];
+        self.fuse = 1000000000;
+        self.noise = [0; 4096];
+    }
 }
 
 // The answer of a call that answers no number.
 fn say(rt: &impl Print, answer: Result<usize, Refusal>) -> io::Result<()> {
     match answer {
-        Ok(_) => print!(rt; ": done"),
+        Ok(_) => rt.write_all(b": done"),
         Err(refusal) => print!(rt; ": refused {}", refusal.number()),
     }
 }
@@ -82,56 +88,63 @@ fn tell(rt: &impl Print, answer: Result<usize, Refusal>) -> io::Result<()> {
 }
 
 // get KEY N: the buffer is printed whole, so that one sees what was left as it was.
-fn tell_get(
-    rt: &(impl Print + AllocGlobal),
-    bench: &Bench,
-    key: &[u8],
-    n: usize,
-) -> io::Result<()> {
-    let mut buffer = vec![in rt.alloc(); b'.'; n.min(LONGEST)]?;
-    let answer = bench.get(key, &mut buffer);
+fn tell_get(rt: &impl Print, bench: &Bench<'_>, key: &[u8], n: usize) -> io::Result<()> {
+    let mut dots = [b'.'; LONGEST];
+    let buffer = &mut dots[..n.min(LONGEST)];
+    let answer = bench.get(key, buffer);
     tell(rt, answer)?;
-    print!(rt; ", buffer '")?;
-    rt.write_all(&buffer)?;
-    print!(rt; "'")
+    rt.write_all(b", buffer '")?;
+    rt.write_all(buffer)?;
+    rt.write_all(b"'")
 }
 
-// What a line does, and what it is answered.
-fn play_line(rt: &(impl Print + AllocGlobal), line: &[u8], bench: &mut Bench) -> io::Result<()> {
-    match Line::read(rt.alloc(), line)? {
-        Line::Heading => Ok(()),
-        Line::Lend => {
-            *bench = lend(rt.alloc(), line)?;
-            Ok(())
-        }
+// What a line does that lends nothing and sets no noise, and what it is answered.
+fn play_line(rt: &impl Print, line: &Line, bench: &mut Bench<'_>) -> io::Result<()> {
+    match line {
+        Line::Heading | Line::Lend | Line::Noise(_) => Ok(()),
         Line::Fuse(n) => {
-            bench.fuse = n;
-            Ok(())
-        }
-        Line::Noise(noise) => {
-            bench.noise = calls::noise(noise);
+            *bench.fuse = *n;
             Ok(())
         }
         Line::Count => tell(rt, bench.count()),
-        Line::Get(key, n) => tell_get(rt, bench, &key, n),
-        Line::Call(Some(call)) => say(rt, bench.make(&call)),
+        Line::Get(key, n) => tell_get(rt, bench, key.as_slice(), *n),
+        Line::Call(Some(call)) => say(rt, bench.make(call)),
         Line::Call(None) => say(rt, Ok(0)),
     }
 }
 
 // Plays the script, each line printed with what it is answered. The first line lends a chip, whatever it says.
-fn play(rt: &(impl Print + AllocGlobal), script: &[u8]) -> io::Result<()> {
-    let lines = trying::lines(rt.alloc(), script)?;
-    let Some(first) = lines.first() else {
-        return Ok(());
+fn play(rt: &impl Print, script: &[u8]) -> io::Result<()> {
+    let mut store = Store {
+        chip: [0; 20480],
+        bytes: 0,
+        work: [0; 96],
+        words: 0,
+        fuse: 0,
+        noise: [0; 4096],
     };
-    let mut bench = lend(rt.alloc(), first)?;
-    rt.write_all(first)?;
-    println!(rt)?;
-    for line in &lines[1..] {
+    let lines = script
+        .split_inclusive(trying::ends_line)
+        .map(trying::without_end);
+    for (i, line) in lines.enumerate() {
         rt.write_all(line)?;
-        play_line(rt, line, &mut bench)?;
-        println!(rt)?;
+        match Line::read(line) {
+            _ if i == 0 => store.lend(line),
+            Line::Lend => store.lend(line),
+            Line::Noise(which) => calls::fill_noise(which, &mut store.noise),
+            said => {
+                let n = store.bytes.min(20480);
+                let m = store.words.min(96);
+                let mut bench = Bench {
+                    chip: &mut store.chip[..n],
+                    work: &mut store.work[..m],
+                    fuse: &mut store.fuse,
+                    noise: &store.noise,
+                };
+                play_line(rt, &said, &mut bench)?;
+            }
+        }
+        rt.write_all(b"\n")?;
     }
     Ok(())
 }

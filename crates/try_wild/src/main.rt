@@ -6,7 +6,6 @@
 use calls::Bench;
 use chance::{ChipKind, Dice, Entries, Heading};
 use lent::Refusal;
-use std::alloc::{AllocError, Global};
 use std::io;
 use tallies::{Part, Slot, Tally, Trial};
 
@@ -24,13 +23,9 @@ const KINDS: [ChipKind; 4] = [
 
 fn try_chip(trial: &mut Trial, kind: ChipKind) {
     trial.part = Part::Chips(kind);
-    chance::make_chip(&mut trial.bench.chip, kind, &mut trial.dice);
-    chance::scramble(
-        &mut trial.bench.work,
-        Heading::Wild,
-        Entries::Any,
-        &mut trial.dice,
-    );
+    let Trial { bench, dice, .. } = trial;
+    chance::make_chip(bench.chip, kind, dice);
+    chance::scramble(bench.work, Heading::Wild, Entries::Any, dice);
     if trial.start(Slot::Start).is_ok() {
         trial.use_store();
     }
@@ -47,7 +42,7 @@ const ENTRIES: [Entries; 4] = [Entries::Any, Entries::Near, Entries::Places, Ent
 
 // The bytes that a put or a delete changed. Refused with anything but 7 and 8, it must have changed none.
 fn judge(trial: &mut Trial, before: &[u8], answer: Result<usize, Refusal>) {
-    let n = trying::changed(before, &trial.bench.chip, 0, 0);
+    let n = trying::changed(before, trial.bench.chip, 0, 0);
     trial.add(Slot::BytesChanged, n);
     let may_change = matches!(
         answer,
@@ -58,14 +53,20 @@ fn judge(trial: &mut Trial, before: &[u8], answer: Result<usize, Refusal>) {
     }
 }
 
-fn try_changes(trial: &mut Trial) -> Result<(), AllocError> {
-    let before = trial.bench.chip.clone()?;
+// The chip's bytes are kept, as many as there is room for.
+fn keep(before: &mut [u8], chip: &[u8]) {
+    let n = before.len().min(chip.len());
+    before[..n].copy_from_slice(&chip[..n]);
+}
+
+fn try_changes(trial: &mut Trial) {
+    let mut before = [0u8; 16384];
+    keep(&mut before, trial.bench.chip);
     let answer = trial.put();
     judge(trial, &before, answer);
-    let before = trial.bench.chip.clone()?;
+    keep(&mut before, trial.bench.chip);
     let answer = trial.delete();
     judge(trial, &before, answer);
-    Ok(())
 }
 
 // Get must leave the buffer as it was from the value's end on.
@@ -100,15 +101,15 @@ fn make_store(trial: &mut Trial) {
 }
 
 // The four calls on an area that was overwritten.
-fn try_area(trial: &mut Trial, heading: Heading, entries: Entries) -> Result<(), AllocError> {
+fn try_area(trial: &mut Trial, heading: Heading, entries: Entries) {
     make_store(trial);
     trial.part = Part::Areas(heading);
-    chance::scramble(&mut trial.bench.work, heading, entries, &mut trial.dice);
-    try_changes(trial)?;
+    let Trial { bench, dice, .. } = trial;
+    chance::scramble(bench.work, heading, entries, dice);
+    try_changes(trial);
     try_get(trial);
     try_count(trial);
     trial.tally.add(Part::All, Slot::Calls, 4);
-    Ok(())
 }
 
 // ---- both parts
@@ -119,32 +120,27 @@ fn try_chips(trial: &mut Trial) {
     }
 }
 
-fn try_areas(trial: &mut Trial) -> Result<(), AllocError> {
+fn try_areas(trial: &mut Trial) {
     for i in 0..8 * AREAS {
-        try_area(trial, HEADINGS[i % 2], ENTRIES[i / 2 % 4])?;
+        try_area(trial, HEADINGS[i % 2], ENTRIES[i / 2 % 4]);
     }
-    Ok(())
 }
 
 // Four blocks, a work area for them, and power that no call outlasts.
-fn lend(alloc: Global) -> Result<Bench, AllocError> {
-    Ok(Bench {
-        chip: vec![in alloc; 255u8; 16384]?,
-        work: vec![in alloc; 0u32; 80]?,
-        fuse: u64::MAX,
-        noise: [0u8; 4096],
-    })
-}
-
 fn main(rt: HostRuntime) -> io::Result<()> {
     let mut trial = Trial {
-        bench: lend(rt.alloc())?,
+        bench: Bench {
+            chip: &mut [255u8; 16384],
+            work: &mut [0u32; 80],
+            fuse: &mut u64::MAX,
+            noise: &[0u8; 4096],
+        },
         dice: Dice { seed: 1 },
         tally: Tally { numbers: [0; 512] },
         part: Part::All,
     };
     try_chips(&mut trial);
-    try_areas(&mut trial)?;
+    try_areas(&mut trial);
     let rows = trying::input(&rt)?;
     trying::report(&rt, &rows, &trial.tally.numbers)
 }

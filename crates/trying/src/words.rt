@@ -1,28 +1,32 @@
 // Text in lines, and lines in words.
-ghost use Rattle.std.specs.Prelude.{◌<◌, ◌≤◌, length, IfOk, vec_len};
-
-use std::alloc::{AllocError, Global};
+ghost use Rattle.std.specs.Prelude.{◌≡◌, ◌<◌, ◌≤◌, length};
+ghost use Rattle.trying.specs.Words.{spelt};
 
 // The most bytes of a key or a value in a script.
 pub const LONGEST: usize = 256;
 
-// The line, without the byte that ends it.
-fn without_end(line: &[u8]) -> &[u8] {
+// Whether the byte ends a line.
+pub fn ends_line(b: &u8) -> bool {
+    *b == b'\n'
+}
+
+// The line, without the byte that ends it. (A text's lines are `text.split_inclusive(ends_line).map(without_end)`, with nothing kept of them.)
+pub fn without_end(line: &[u8]) -> &[u8] {
     match line {
         [text @ .., b'\n'] => text,
         _ => line,
     }
 }
 
-// The lines of a text, without their ends. (No `collect`: that there are no more of them than bytes didn't prove.)
-pub fn lines(alloc: Global, text: &[u8]) -> Result<Vec<&[u8]>, AllocError>
-    ensures { IfOk result (λ lines. vec_len lines ≤ length text.now) }
+// How many lines a text has.
+pub fn count_lines(text: &[u8]) -> usize
+    ensures { result ≤ length text.now }
 {
-    let mut lines = Vec::new(alloc);
-    for line in text.split_inclusive(|b| *b == b'\n') {
-        lines.push(without_end(line))?;
+    let mut lines = 0;
+    for _ in text.split_inclusive(ends_line) {
+        lines += 1;
     }
-    Ok(lines)
+    lines
 }
 
 // Word k of a line, from 0 on; no bytes where there is none.
@@ -67,31 +71,53 @@ fn first(s: &[u8]) -> Option<(u8, &[u8])> {
     }
 }
 
+// What a word stands for: the first so many of these bytes.
+#[derive(Clone, Copy)]
+pub struct Text {
+    pub all: [u8; LONGEST],
+    pub length: usize,
+}
+
+impl Text {
+    pub fn as_slice(&self) -> &[u8]
+        ensures { result.now ≡ spelt self.now }
+    {
+        self.all.get(..self.length).unwrap_or(&self.all)
+    }
+}
+
 // The bytes that stand there, as many as are taken.
-fn copy(alloc: Global, s: &[u8]) -> Result<Vec<u8>, AllocError>
-    ensures { IfOk result (λ v. vec_len v ≤ LONGEST) }
+fn copy(s: &[u8]) -> Text
+    ensures { result.length ≤ LONGEST }
 {
-    let mut out = Vec::with_capacity(alloc, LONGEST)?;
+    let mut text = Text {
+        all: [0; LONGEST],
+        length: 0,
+    };
     let mut rest = s;
-    for _ in 0..LONGEST {
+    for i in 0..LONGEST {
         let Some((b, after)) = first(rest) else {
             break;
         };
-        out.push(b)?;
+        text.all[i] = b;
+        text.length = i + 1;
         rest = after;
     }
-    Ok(out)
+    text
 }
 
 // The key or the value that is word k, cut after so many bytes: `v*221` is 221 times v, `%7f` the byte 0x7F, and any other byte itself.
-pub fn bytes(alloc: Global, line: &[u8], k: usize) -> Result<Vec<u8>, AllocError>
-    ensures { IfOk result (λ v. vec_len v ≤ LONGEST) }
+pub fn bytes(line: &[u8], k: usize) -> Text
+    ensures { result.length ≤ LONGEST }
 {
     match word(line, k) {
         [b, b'*', times @ ..] if !times.is_empty() => {
             let n = LONGEST.min(decimal(times) as usize);
-            vec![in alloc; *b; n]
+            Text {
+                all: [*b; LONGEST],
+                length: n,
+            }
         }
-        s => copy(alloc, s),
+        s => copy(s),
     }
 }

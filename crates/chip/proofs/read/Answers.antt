@@ -1,11 +1,11 @@
 use Rattle.std.proofs.Common.{◌+◌, take, drop, length, get_or, ◌∙◌, sym, arith, rules}
-use Rattle.std.proofs.lemmas.List.Edits.{fill_by_more}
 use lib.ListN.{length-drop}
 use lib.Seq.{ext_get_or, get_or-take, length-take-le, get_or-drop}
+use Rattle.chip.proofs.Loops.{read_turn}
 use Rattle.chip.proofs.read.Goals as goal
 
 pub loop-i-preserved : goal.loop-i-preserved
-loop-i-preserved c = (search rules, fill_by_more (λ k. get_or c.args.chip.now (c.args.at + k) 0) c.loop-i.to c.loop-i.i 0 (omega arith) c.loop-i.invariant.1)
+loop-i-preserved c = (search rules, read_turn c.args.chip.now c.loop-i.to c.args.at c.loop-i.i (omega arith) c.loop-i.invariant.1 _ (omega arith))
 
 pub returns : goal.returns
 returns c =
