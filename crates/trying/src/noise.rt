@@ -30,7 +30,7 @@ pub const NOISES: [Noise; 5] = [
 ];
 
 impl Noise {
-    // Byte i of the noise's page p, by the page.
+    // Byte i of the noise's page p, by the page. (The sum in u16, and not narrowed from an index: so eight are made at a time.)
     fn byte(self, page: &Page, p: usize, i: usize) -> u8
         requires { (p < 16) × (i < 256) }
         ensures { result ≡ noise_byte self page.now (256 * p + i) }
@@ -38,7 +38,7 @@ impl Noise {
         match self {
             Noise::Zeros => 0,
             Noise::Ones => 255,
-            Noise::Mixed => ((256 * p + i) as u16 % 251) as u8,
+            Noise::Mixed => ((256 * p as u16 + i as u16) % 251) as u8,
             Noise::Forged => page[i],
             Noise::Kept if p == 1 => page[i],
             Noise::Kept => 255,
