@@ -66,8 +66,8 @@ impl Bench<'_> {
         fetch::count(self.chip, self.work, self.fuse)
     }
 
-    // So many puts of the key, up to the first that is refused: the value of put i is i in decimal.
-    fn put_often(&mut self, key: &[u8], times: u64) -> Result<usize, Refusal>
+    // So many puts of the key, up to the first that is refused: the value of put i is i in decimal. (Public for a key that no `Text` holds.)
+    pub fn put_often(&mut self, key: &[u8], times: u64) -> Result<usize, Refusal>
         ensures kept { KeepsLengths self.old self.new }
         ensures same { LentStill self.old self.new }
     {
@@ -147,6 +147,24 @@ mod tests {
             matches!(Call::read(b"puts a*3 12"), Some(Call::Puts(key, 12)) if key.as_slice() == b"aaa".as_slice())
         );
         assert!(rt; Call::read(b"get a 3").is_none());
+        Ok(())
+    }
+
+    #[test]
+    fn a_key_is_put_often(rt: HostRuntime) -> Result<(), Fail> {
+        let mut bench = Bench {
+            chip: &mut [255; 16384],
+            work: &mut [0; 80],
+            fuse: &mut 1000,
+            noise: &[0; 4096],
+        };
+        assert!(rt; bench.start() == Ok(0));
+        assert!(rt; bench.put_often(b"a", 3) == Ok(0));
+        let mut buffer = [0; 220];
+        assert!(rt; bench.get(b"a", &mut buffer) == Ok(1));
+        assert_eq!(rt; buffer[0], b'2');
+        assert!(rt; bench.put_often(&[b'a'; 300], 3) == Err(Refusal::BadKey));
+        assert!(rt; bench.put_often(&[b'a'; 300], 0) == Ok(0));
         Ok(())
     }
 }

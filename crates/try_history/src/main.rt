@@ -85,8 +85,8 @@ struct Trial<'a> {
 impl Trial<'_> {
     // The history is run from there to its end, with power that stays. Whether the map is right, also after a start.
     fn ends_right(&mut self, from: usize, n: usize) -> bool {
-        let found = cutting::survive(&self.history, from, n, &mut self.bench, LONG);
-        let ended = cutting::ended(&self.history, &mut self.bench);
+        let found = cutting::script_survive(&self.history, from, n, &mut self.bench, LONG);
+        let ended = cutting::script_ended(&self.history, &mut self.bench);
         ended && found.is_some_and(|found| found.map == self.history.count)
     }
 
@@ -95,7 +95,7 @@ impl Trial<'_> {
         self.bench.chip.fill(255);
         self.bench.work.fill(0);
         self.bench.noise = self.first;
-        cutting::survive(&self.history, 0, 0, &mut self.bench, t)
+        cutting::script_survive(&self.history, 0, 0, &mut self.bench, t)
     }
 
     // How the history goes so.
@@ -113,8 +113,13 @@ impl Trial<'_> {
             return Outcome::Wrong;
         };
         self.bench.noise = self.second;
-        let Some(last) = cutting::survive(&self.history, first.call, first.map, &mut self.bench, s)
-        else {
+        let Some(last) = cutting::script_survive(
+            &self.history,
+            first.call,
+            first.map,
+            &mut self.bench,
+            s,
+        ) else {
             return Outcome::Wrong;
         };
         let right = self.ends_right(first.call, last.map);
@@ -193,7 +198,7 @@ fn try_each(rt: &impl Print, history: Steps, second: Option<Noise>) -> io::Resul
 
 fn main(rt: HostRuntime) -> io::Result<()> {
     let script = trying::input(&rt)?;
-    let history = cutting::history(&script);
+    let history = cutting::script_history(&script);
     try_each(&rt, history, None)?;
     for second in NOISES {
         try_each(&rt, history, Some(second))?;

@@ -12,7 +12,7 @@ use page::Page;
 use record::Kind;
 use std::io::Read;
 use std::{fmt, io};
-pub use words::{LONGEST, Text, bytes, count_lines, ends_line, numeral, without_end, word};
+pub use words::{LONGEST, Text, bytes, count_lines, ends_line, lines, numeral, without_end, word};
 
 // The most bytes of standard input that a program reads.
 const MOST_INPUT: u64 = 65536;
@@ -146,6 +146,17 @@ mod tests {
         assert_eq!(rt; bytes(line, 1).as_slice().len(), 0);
         assert!(rt; lines.next().is_none());
         assert_eq!(rt; count_lines(script), 3);
+        Ok(())
+    }
+
+    #[test]
+    fn lines_are_kept(rt: HostRuntime) -> Result<(), Fail> {
+        let script = lines(rt.alloc(), b"put a%20b v*3\n\nget")?;
+        assert_eq!(rt; script.len(), 3);
+        assert_eq!(rt; script[0], b"put a%20b v*3".as_slice());
+        assert_eq!(rt; script[1].len(), 0);
+        assert_eq!(rt; script[2], b"get".as_slice());
+        assert_eq!(rt; lines(rt.alloc(), b"")?.len(), 0);
         Ok(())
     }
 }

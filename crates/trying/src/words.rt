@@ -1,6 +1,8 @@
 // Text in lines, and lines in words.
-ghost use Rattle.std.specs.Prelude.{◌≡◌, ◌<◌, ◌≤◌, length};
+ghost use Rattle.std.specs.Prelude.{◌≡◌, ◌<◌, ◌≤◌, length, IfOk, vec_len};
 ghost use Rattle.trying.specs.Words.{spelt};
+
+use std::alloc::{AllocError, Global};
 
 // The most bytes of a key or a value in a script.
 pub const LONGEST: usize = 256;
@@ -27,6 +29,17 @@ pub fn count_lines(text: &[u8]) -> usize
         lines += 1;
     }
     lines
+}
+
+// The lines of a text, without their ends, as a list, which the programs don't ask for. (No `collect`: that there are no more of them than bytes didn't prove.)
+pub fn lines(alloc: Global, text: &[u8]) -> Result<Vec<&[u8]>, AllocError>
+    ensures { IfOk result (λ lines. vec_len lines ≤ length text.now) }
+{
+    let mut lines = Vec::new(alloc);
+    for line in text.split_inclusive(ends_line) {
+        lines.push(without_end(line))?;
+    }
+    Ok(lines)
 }
 
 // Word k of a line, from 0 on; no bytes where there is none.
